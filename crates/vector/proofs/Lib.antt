@@ -1,0 +1,3 @@
+pub mod Natural
+pub mod Plainly
+pub mod Rows
