@@ -105,6 +105,7 @@ opened-push xs b k h e z =
     opened-more : (ys : List Bucket) → opened (ys ++ (b ∷ [])) ≡ opened ys ++ (is-open b ∷ [])
     opened-more [] = refl
     opened-more (y ∷ ys) = ap (λ (fs : List Bool). is-open y ∷ fs) (opened-more ys)
+
     shut-more : (i : ℕ) → i < 6 → take i all-shut ++ (false ∷ []) ≡ take (i + 1) all-shut
     shut-more zero lt = refl
     shut-more (suc zero) lt = refl

@@ -35,20 +35,20 @@ outside low high n = not (leb low n && leb n high)
 abbrev pub set-up-rows : ℕ → ℕ → ℕ → ℕ → ℕ → Bool → List (Bool × ℕ)
 set-up-rows set capacity threads words needed zeros =
     (ltb 0 set, 15)
-      ∷ (outside 1 64 capacity, 10)
-      ∷ (outside 1 8 threads, 11)
-      ∷ (ltb words needed, 12)
-      ∷ (not zeros, 13)
-      ∷ []
+    ∷ (outside 1 64 capacity, 10)
+    ∷ (outside 1 8 threads, 11)
+    ∷ (ltb words needed, 12)
+    ∷ (not zeros, 13)
+    ∷ []
 
 -- over the number of threads, and whether thread t has an open operation
 abbrev pub begin-rows : {V : Type 0} → ℕ → ℕ → Bool → ℕ → ℕ → ℕ → Op V → List (Bool × ℕ)
 begin-rows threads t busy numbers given capacity op =
     (outside 1 threads t, 20)
-      ∷ (busy, 21)
-      ∷ (leb numbers given, 22)
-      ∷ (not (index-fits capacity op), 23)
-      ∷ []
+    ∷ (busy, 21)
+    ∷ (leb numbers given, 22)
+    ∷ (not (index-fits capacity op), 23)
+    ∷ []
 
 abbrev pub step-rows : ℕ → ℕ → Bool → List (Bool × ℕ)
 step-rows threads t busy = (outside 1 threads t, 20) ∷ (not busy, 25) ∷ []

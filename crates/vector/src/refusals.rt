@@ -77,4 +77,3 @@ fn has_index_below<V: Copy>(capacity: usize, op: Op<V>) -> bool
         Op::Read(i) | Op::Write(i, _) => i < capacity,
     }
 }
-
