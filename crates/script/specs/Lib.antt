@@ -1,0 +1,11 @@
+pub mod Commands
+pub mod Entries
+pub mod Examples
+pub mod Faults
+pub mod Fields
+pub mod Headers
+pub mod Items
+pub mod Lines
+pub mod Numbers
+pub mod Opening
+pub mod Reading

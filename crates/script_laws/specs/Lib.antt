@@ -1,0 +1,4 @@
+pub mod Decimals
+pub mod Grammar
+pub mod Laws
+pub mod Worked

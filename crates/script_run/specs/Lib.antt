@@ -1,0 +1,4 @@
+pub mod Calls
+pub mod Drives
+pub mod Outcomes
+pub mod Scripts

@@ -1,0 +1,4 @@
+pub mod Log
+pub mod Bench
+pub mod History
+pub mod Runs
