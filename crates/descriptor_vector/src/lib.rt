@@ -17,4 +17,5 @@ mod vector;
 
 pub use container::DescriptorVectorIsContainer;
 pub use container::DescriptorVectorIsOver;
+pub use proved::played_runs;
 pub use vector::DescriptorVector;

@@ -3,4 +3,6 @@ ghost use Rattle.played.specs.Worked.{Worked-runs};
 
 pub fn worked_runs()
     ensures { λ _. ⌜ Worked-runs ⌝ }
-{}
+{
+    let _ = descriptor_vector::played_runs();
+}

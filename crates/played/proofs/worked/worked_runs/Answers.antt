@@ -1,4 +1,4 @@
--- Every row is computed.
+-- Every row is computed; those of the descriptor vector in its own crate.
 use mathlib.Core.Path.{refl}
 use lib.Count.{leadingZeros}
 use Rattle.played.proofs.worked.worked_runs.Needs as need
@@ -14,4 +14,7 @@ returns c = record {
   lowest = λ p ex ey ez. simp (ex, ey, ez);
   highest = λ p ex ey ez. simp (ex, ey, ez);
   minus-one = refl;
+  locked-push = refl;
+  locked-size = refl;
+  descriptor-runs = c .played-runs .ensures;
 }
