@@ -1,4 +1,6 @@
 // Plays the script on standard input, and prints its listing or its first fault.
+#![tactic(auto)]
+
 use anyhow::anyhow;
 use script_run::run_script;
 use std::env;

@@ -1,5 +1,7 @@
 // Plays every script of a bundle, and prints the bundle of what came of each: what the second bench is compared with.
 // An entry of a bundle is its length in decimal, a line feed, that many bytes, and a line feed.
+#![tactic(auto)]
+
 use anyhow::anyhow;
 use script_run::run_script;
 use std::io::{Read, Write};

@@ -1,4 +1,6 @@
 // The step table of the descriptor vector: what each stage asks of the memory, and where what it finds leads.
+#![tactic(auto)]
+
 mod asks;
 mod found;
 mod leads;

@@ -1,4 +1,6 @@
 // The descriptor vector over any memory: one access of the memory to a step.
+#![tactic(auto)]
+
 mod calls;
 mod container;
 mod rows;

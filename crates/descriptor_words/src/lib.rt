@@ -1,4 +1,6 @@
 // The words that a descriptor vector keeps in its memory, and the memory seen through them.
+#![tactic(auto)]
+
 mod access;
 mod cell;
 mod parts;

@@ -1,5 +1,7 @@
 // For tests only: the least container there is. An operation takes effect and ends at its first step, and no memory is used.
 // It shows that the promises of a container can be met; its must-fail edits are false containers, each of which is refused.
+#![tactic(auto)]
+
 ghost use Rattle.std.specs.Prelude.{◌≡◌, ◌≤◌, length, take};
 ghost use Rattle.vector.specs.Meaning.{unset};
 ghost use Rattle.direct.specs.Shows.{shown, own_of};

@@ -1,4 +1,6 @@
 // Kinds of item, which turn into 32-bit values and back.
+#![tactic(auto)]
+
 ghost use Rattle.std.specs.Prelude.{◌≡◌, ℕ};
 
 mod numbers;

@@ -1,4 +1,6 @@
 // A vector under a lock, over any memory: a thread takes the lock, works as if it were alone, and frees it.
+#![tactic(auto)]
+
 ghost use Rattle.std.specs.Prelude.{◌≡◌, ◌≤◌, length};
 ghost use Rattle.lock_vector.specs.Calls.{unprepared, Acts, Prepares, Admits, Advances};
 ghost use Rattle.lock_vector.specs.Meaning.{Sound, shown};

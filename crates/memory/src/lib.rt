@@ -1,4 +1,6 @@
 // A memory: a list of 64-bit words, numbered from 0, whose length never changes.
+#![tactic(auto)]
+
 ghost use Rattle.std.specs.Prelude.{◌≡◌, ℕ, List, length};
 ghost use Rattle.memory.specs.Words.{Loads, Swaps};
 

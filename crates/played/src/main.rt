@@ -1,4 +1,6 @@
 // Plays worked runs through the library, and prints what came of each.
+#![tactic(auto)]
+
 mod benches;
 mod faults;
 mod memories;

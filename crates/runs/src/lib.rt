@@ -1,4 +1,6 @@
 // The law of runs, with no premise and with the bound written out, for the two vectors over every memory and every kind of item.
+#![tactic(auto)]
+
 ghost use Rattle.std.specs.Prelude.{◌≡◌, [], map, IfOk};
 ghost use Rattle.vector.specs.Meaning.{unset};
 ghost use Rattle.stepping.specs.Bench.{call_of};

@@ -1,4 +1,6 @@
 // A script's bytes, read into a header and typed lines.
+#![tactic(auto)]
+
 mod commands;
 mod examples;
 mod fault;

@@ -1,4 +1,6 @@
 // What listings and scripts have to do with each other.
+#![tactic(auto)]
+
 ghost use Rattle.std.specs.Prelude.{ℤ};
 ghost use Rattle.items.specs.declared.point.Point.{Point};
 ghost use Rattle.std.specs.Fmt.{signed_decimal};

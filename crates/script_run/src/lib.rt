@@ -1,4 +1,6 @@
 // Plays a script: bytes in, a listing or the first fault out.
+#![tactic(auto)]
+
 mod benches;
 mod lines;
 

@@ -1,4 +1,6 @@
 // A bench that plays operations of several threads on one container, and keeps a log.
+#![tactic(auto)]
+
 mod append;
 mod closed;
 mod convert;

@@ -1,4 +1,6 @@
 // A plain vector's operations and answers, and what a container of them is.
+#![tactic(auto)]
+
 mod container;
 mod refusals;
 mod scan;
