@@ -30,14 +30,14 @@ impl<M: Memory> DescriptorVector<M> {
     pub fn new(memory: M) -> DescriptorVector<M>
         ensures memory { result.memory ≡ memory }
         ensures table { result.table ≡ prepared 0 0 }
-        ensures unset { (shown result.table (words result.memory)).meaning ≡ unset }
+        ensures unset { (shown result.table (M.words result.memory)).meaning ≡ unset }
     {
         let table = table_of(0, 0);
         DescriptorVector { memory, table }
     }
 
     pub(crate) fn prepare(&mut self, capacity: usize, threads: usize) -> Result<(), Refusal>
-        ensures { Prepares self.old.table (words self.old.memory) capacity threads result self.new.table (words self.new.memory) }
+        ensures { Prepares self.old.table (M.words self.old.memory) capacity threads result self.new.table (M.words self.new.memory) }
     {
         may_set_up(
             usize::from(self.table.capacity),
@@ -52,7 +52,7 @@ impl<M: Memory> DescriptorVector<M> {
     }
 
     pub(crate) fn admit(&mut self, thread: usize, op: Op<u32>) -> Result<u32, Refusal>
-        ensures { Admits self.old.table (words self.old.memory) thread op result self.new.table (words self.new.memory) }
+        ensures { Admits self.old.table (M.words self.old.memory) thread op result self.new.table (M.words self.new.memory) }
     {
         let busy = row_of(&self.table.rows, thread).is_open();
         let capacity = self.table.capacity;
@@ -74,7 +74,7 @@ impl<M: Memory> DescriptorVector<M> {
     }
 
     pub(crate) fn advance(&mut self, thread: usize) -> Result<Stepped<u32>, Refusal>
-        ensures { Advances self.old.table (words self.old.memory) thread result self.new.table (words self.new.memory) }
+        ensures { Advances self.old.table (M.words self.old.memory) thread result self.new.table (M.words self.new.memory) }
     {
         let row = row_of(&self.table.rows, thread);
         may_step(self.table.threads, thread, row.is_open())?;

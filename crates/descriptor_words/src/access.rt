@@ -49,21 +49,21 @@ fn cell_location(position: u16) -> usize
 }
 
 fn load_current<M: Memory>(memory: &M) -> Result<u16, Refusal>
-    ensures { Reads current_of (words memory.now) 0 result }
+    ensures { Reads current_of (M.words memory.now) 0 result }
 {
     let word = memory.load(0)?;
     Ok((word % 512) as u16)
 }
 
 fn load_status<M: Memory>(memory: &M, number: u16) -> Result<Status, Refusal>
-    ensures { Reads status_of (words memory.now) number result }
+    ensures { Reads status_of (M.words memory.now) number result }
 {
     let word = memory.load(usize::from(number))?;
     Ok(Status::decode(word))
 }
 
 fn load_cell<M: Memory>(memory: &M, position: u16) -> Result<Cell, Refusal>
-    ensures { Reads cell_of (words memory.now) (cell_at position) result }
+    ensures { Reads cell_of (M.words memory.now) (cell_at position) result }
 {
     let word = memory.load(cell_location(position))?;
     Ok(Cell::decode(word))
@@ -71,7 +71,7 @@ fn load_cell<M: Memory>(memory: &M, position: u16) -> Result<Cell, Refusal>
 
 // One access, whatever stands in the memory: every word afterwards is pinned.
 pub fn perform<M: Memory>(memory: &mut M, access: Access) -> Result<Found, Refusal>
-    ensures { Performs (words memory.old) access result (words memory.new) }
+    ensures { Performs (M.words memory.old) access result (M.words memory.new) }
 {
     match access {
         Access::LoadCurrent => Ok(Found::Number(load_current(memory)?)),

@@ -33,7 +33,7 @@ pub struct LockVector<M: Memory> {
 
 // One stage of an open operation, with its one access of the memory.
 fn act<M: Memory>(memory: &mut M, capacity: u32, task: Task) -> Result<Moved, Refusal>
-    ensures { Acts capacity (words memory.old) task result (words memory.new) }
+    ensures { Acts capacity (M.words memory.old) task result (M.words memory.new) }
 {
     match task.stage {
         Stage::Load(loading) => {
@@ -54,7 +54,7 @@ impl<M: Memory> LockVector<M> {
     pub fn new(memory: M) -> LockVector<M>
         ensures memory { result.memory ≡ memory }
         ensures table { result.table ≡ unprepared }
-        ensures sound { Sound result.table (words result.memory) }
+        ensures sound { Sound result.table (M.words result.memory) }
     {
         let table = Table {
             capacity: 0,
@@ -67,7 +67,7 @@ impl<M: Memory> LockVector<M> {
 
     // Set-up. It finds every word 0, so that the lock is free and the length 0, and alters none.
     fn prepare(&mut self, capacity: usize, threads: usize) -> Result<(), Refusal>
-        ensures { Prepares self.old.table (words self.old.memory) capacity threads result self.new.table (words self.new.memory) }
+        ensures { Prepares self.old.table (M.words self.old.memory) capacity threads result self.new.table (M.words self.new.memory) }
     {
         may_set_up(
             self.table.capacity as usize,
@@ -88,7 +88,7 @@ impl<M: Memory> LockVector<M> {
 
     // Begin: the operation is at K1, with the next number.
     fn admit(&mut self, thread: usize, op: Op<u32>) -> Result<u32, Refusal>
-        ensures { Admits self.old.table (words self.old.memory) thread op result self.new.table (words self.new.memory) }
+        ensures { Admits self.old.table (M.words self.old.memory) thread op result self.new.table (M.words self.new.memory) }
     {
         let busy = self.table.row(thread).is_busy();
         let capacity = self.table.capacity as usize;
@@ -111,7 +111,7 @@ impl<M: Memory> LockVector<M> {
 
     // Step: one stage of the thread's operation.
     fn advance(&mut self, thread: usize) -> Result<Stepped<u32>, Refusal>
-        ensures { Advances self.old.table (words self.old.memory) thread result self.new.table (words self.new.memory) }
+        ensures { Advances self.old.table (M.words self.old.memory) thread result self.new.table (M.words self.new.memory) }
     {
         let row = self.table.row(thread);
         may_step(self.table.threads, thread, row.is_busy())?;

@@ -134,9 +134,9 @@ joined_shut (b ∷ bs) e =
     none_held n true is h = absurd (omega arith)
     none_held n false is h = omega (arith, ltb-false 0 n is)
 
-pub bool_byte : (t : Bool) → bool_byte t ≡ cond t 1 0
-bool_byte true = refl
-bool_byte false = refl
+pub byte_of_bool : (t : Bool) → bool_byte t ≡ cond t 1 0
+byte_of_bool true = refl
+byte_of_bool false = refl
 
 pub counted_le : (b : Bucket) → counted b ≤ 1
 counted_le b = elim (is_open b) as (λ t. cond t 1 0 ≤ 1) [ true ↦ omega arith | false ↦ omega arith ]

@@ -56,5 +56,5 @@ pub trait Container {
 // A container that can be made over a memory `M`, not yet set up, with that memory's words.
 pub trait Over<M: Memory>: Container {
     fn over(memory: M) -> Self
-        ensures { ((Self.Container.shows result).meaning ≡ unset) × ((Self.Container.shows result).words ≡ words memory) };
+        ensures { ((Self.Container.shows result).meaning ≡ unset) × ((Self.Container.shows result).words ≡ M.words memory) };
 }

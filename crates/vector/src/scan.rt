@@ -6,7 +6,7 @@ use memory::Memory;
 
 // Whether every word is 0.
 pub fn all_zero<M: Memory>(memory: &M) -> bool
-    ensures { result ≡ all_zero (words memory.now) }
+    ensures { result ≡ all_zero (M.words memory.now) }
 {
     for i in 0..memory.len() {
         let Ok(word) = memory.load(i) else {

@@ -2,11 +2,11 @@ use Rattle.std.proofs.Common.{◌^◌, ◌<◌, refl, arith}
 use Rattle.memory.proofs.Placing.{bounds, placed}
 use Rattle.memory.proofs.places.place.Goals as goal
 
-pub overflow-mul-result : goal.overflow-mul-result
-overflow-mul-result c = let k = bounds c.args.at (omega arith) in simp k.fits (record { fits = omega (arith, k.low) })
+pub overflow_mul-result : goal.overflow_mul-result
+overflow_mul-result c = let k = bounds c.args.at (omega arith) in simp k.fits (record { fits = omega (arith, k.low) })
 
-pub overflow-sub-result-2 : goal.overflow-sub-result-2
-overflow-sub-result-2 c = let k = bounds c.args.at (omega arith) in simp k.fits (omega (arith, k.low))
+pub overflow_sub-result-2 : goal.overflow_sub-result-2
+overflow_sub-result-2 c = let k = bounds c.args.at (omega arith) in simp k.fits (omega (arith, k.low))
 
 pub returns : goal.returns
 returns c =

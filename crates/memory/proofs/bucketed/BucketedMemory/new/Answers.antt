@@ -6,8 +6,8 @@ use Rattle.memory.proofs.bucketed.BucketedMemory.new.Goals as goal
 
 pub loop-size-preserved : goal.loop-size-preserved
 loop-size-preserved c =
-    let made = c.in-ok-new.ensures in
-    let items = c.in-ok-push.ensures.items in
+    let made = c.in_ok-new.ensures in
+    let items = c.in_ok-push.ensures.items in
     let inv = c.loop-size.invariant in
     let i = c.loop-size.size-index in (
       omega arith,
