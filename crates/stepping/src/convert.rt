@@ -7,8 +7,8 @@ use items::Kind;
 use vector::{Answer, Ended, Op, Stepped};
 
 pub(crate) fn op_of_values<K: Kind>(op: Op<K::Item>) -> Op<u32>
-    ensures turned { result ≡ map_op value op }
-    ensures back { map_op item (map_op value op) ≡ op }
+    ensures turned { result ≡ map_op K.value op }
+    ensures back { map_op K.item (map_op K.value op) ≡ op }
 {
     match op {
         Op::Push(x) => Op::Push(K::to_value(x)),
@@ -20,7 +20,7 @@ pub(crate) fn op_of_values<K: Kind>(op: Op<K::Item>) -> Op<u32>
 }
 
 pub(crate) fn answer_of_items<K: Kind>(answer: Answer<u32>) -> Answer<K::Item>
-    ensures { result ≡ map_answer item answer }
+    ensures { result ≡ map_answer K.item answer }
 {
     match answer {
         Answer::Position(n) => Answer::Position(n),
@@ -34,7 +34,7 @@ pub(crate) fn answer_of_items<K: Kind>(answer: Answer<u32>) -> Answer<K::Item>
 }
 
 pub(crate) fn step_of_items<K: Kind>(step: Stepped<u32>) -> Stepped<K::Item>
-    ensures { result ≡ typed item step }
+    ensures { result ≡ typed K.item step }
 {
     let end = match step.end {
         None => None,

@@ -28,7 +28,7 @@ pub fn play_over<M: Memory, C: Over<M> + Drop, K: Kind>(
 ) -> Result<Played<C, K>, AllocError>
     ensures called { IfOk result (λ p. map call_of p.events.items ≡ calls.now) }
     ensures performed { IfOk result (λ p. (start : C) × ((C.Container.shows start).meaning ≡ unset) × ((C.Container.shows start).words ≡ M.words memory) × Performed C.Container K.Kind [] start p.events.items p.closed.container) }
-    ensures law { IfOk result (λ p. LawOfRuns value (C.Container.shows p.closed.container).make.bound p.events.items p.closed.log.items (C.Container.shows p.closed.container).meaning) }
+    ensures law { IfOk result (λ p. LawOfRuns K.value (C.Container.shows p.closed.container).make.bound p.events.items p.closed.log.items (C.Container.shows p.closed.container).meaning) }
 {
     let container = C::over(memory);
     let mut events = Vec::with_capacity(heap, calls.len())?;

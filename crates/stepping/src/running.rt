@@ -28,7 +28,7 @@ impl<C: Container, K: Kind> Running<C, K> {
     // every number.
     pub fn new(heap: Global, container: C) -> Result<Running<C, K>, AllocFailed<C>>
         ensures made { IfOk result (λ b. Makes C.Container container b) }
-        ensures led { IfOk result (λ b. (shows container).meaning ≡ unset → Led C.Container K.Kind container [] b) }
+        ensures led { IfOk result (λ b. (C.Container.shows container).meaning ≡ unset → Led C.Container K.Kind container [] b) }
         ensures refused { IfErr result (λ e. e.value ≡ container) }
     {
         match Vec::with_capacity(heap, 3 * container.numbers() as usize) {

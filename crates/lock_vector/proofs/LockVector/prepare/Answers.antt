@@ -2,5 +2,5 @@ use Rattle.std.proofs.Common.{rules}
 use Rattle.vector.proofs.Preparing.{cut}
 use Rattle.lock_vector.proofs.LockVector.prepare.Goals as goal
 
-pub returns-in-err-may-set-up : goal.returns-in-err-may-set-up
-returns-in-err-may-set-up g c = search (rules, cut)
+pub returns-in_err-may_set_up : goal.returns-in_err-may_set_up
+returns-in_err-may_set_up g c = search (rules, cut)

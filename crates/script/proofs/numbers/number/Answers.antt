@@ -7,12 +7,12 @@ pub loop-b-preserved : goal.loop-b-preserved
 loop-b-preserved c =
     let i = c.loop-b.b-index in
     let more : 10 ^ (i + 1) ≡ 10 ^ i * 10 = ap (λ n. 10 ^ n) (add-one i) ∙ pow-suc 10 i in
-    let seen = c.if-not-is-ascii-digit.ensures in
+    let seen = c.if-not-is_ascii_digit.ensures in
     (omega (arith, more, seen), digit_step _ _ _ c.loop-b.invariant.1 c.loop-b-test.true seen.value)
 
-pub returns-then-not-is-ascii-digit : goal.returns-then-not-is-ascii-digit
-returns-then-not-is-ascii-digit c = record {
-  value = as_number _ _ (search rules) c.if-text-gt-MOST-DIGITS.false (no_digit _ _ _ c.loop-b.invariant.1 c.loop-b-test.true c.if-not-is-ascii-digit.ensures.value);
+pub returns-then-not-is_ascii_digit : goal.returns-then-not-is_ascii_digit
+returns-then-not-is_ascii_digit c = record {
+  value = as_number _ _ (search rules) c.if-text-gt-MOST_DIGITS.false (no_digit _ _ _ c.loop-b.invariant.1 c.loop-b-test.true c.if-not-is_ascii_digit.ensures.value);
   small = tt;
 }
 
@@ -20,6 +20,6 @@ pub returns : goal.returns
 returns c =
     let few : c.loop-b.b-index ≤ 10 = omega arith in
     record {
-      value = as_number _ _ (search rules) c.if-text-gt-MOST-DIGITS.false (all_digits _ _ _ c.loop-b.invariant.1 c.loop-b-test.false);
+      value = as_number _ _ (search rules) c.if-text-gt-MOST_DIGITS.false (all_digits _ _ _ c.loop-b.invariant.1 c.loop-b-test.false);
       small = omega (arith, pow-le-pow_right {n = 10} (omega arith) few);
     }

@@ -8,9 +8,9 @@ pub returns-then-len-capacity : goal.returns-then-len-capacity
 returns-then-len-capacity g c =
     let log = c.args.log.now in
     record {
-      items = one_more (vec_capacity log) (vec_items log) (vec_items c.push-reserved.new.self) (option_to_list c.args.more) c.in-Some.last (ap option_to_list c.in-Some.is) c.push-reserved.ensures.items
+      items = one_more (vec_capacity log) (vec_items log) (vec_items c.push_reserved.new.self) (option_to_list c.args.more) c.in-Some.last (ap option_to_list c.in-Some.is) c.push_reserved.ensures.items
           (omega (arith, c.if-len-capacity.true, log.ok.0, c.len.ensures, c.capacity.ensures));
-      capacity = c.push-reserved.ensures.capacity;
+      capacity = c.push_reserved.ensures.capacity;
     }
 
 pub returns-else-len-capacity : goal.returns-else-len-capacity
@@ -23,10 +23,10 @@ returns-else-len-capacity g c =
       capacity = refl {a = vec_capacity log};
     }
 
-pub returns-in-default : goal.returns-in-default
-returns-in-default g c =
+pub returns-in_default : goal.returns-in_default
+returns-in_default g c =
     let log = c.args.log.now in
     record {
-      items = nothing_more (vec_capacity log) (vec_items log) (option_to_list c.args.more) (ap option_to_list c.in-default.is) (omega (arith, log.ok.0, log.ok.1));
+      items = nothing_more (vec_capacity log) (vec_items log) (option_to_list c.args.more) (ap option_to_list c.in_default.is) (omega (arith, log.ok.0, log.ok.1));
       capacity = refl {a = vec_capacity log};
     }

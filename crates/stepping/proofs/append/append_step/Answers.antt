@@ -11,7 +11,7 @@ returns g c =
     let mid = c.append.new.log in
     record {
       items = grown_twice (vec_capacity log) (vec_capacity mid) (vec_items log) (vec_items mid) (vec_items c.append-2.new.log)
-          (option_to_list c.effect-of.result) (effect_record c.args.done.effect) (option_to_list c.end-of.result) (end_record c.args.done.end)
-          c.append.ensures.items c.effect-of.ensures c.append.ensures.capacity c.append-2.ensures.items c.end-of.ensures;
+          (option_to_list c.effect_of.result) (effect_record c.args.done.effect) (option_to_list c.end_of.result) (end_record c.args.done.end)
+          c.append.ensures.items c.effect_of.ensures c.append.ensures.capacity c.append-2.ensures.items c.end_of.ensures;
       capacity = c.append-2.ensures.capacity ∙ c.append.ensures.capacity;
     }

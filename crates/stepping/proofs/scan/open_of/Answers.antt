@@ -8,7 +8,7 @@ use Rattle.stepping.proofs.scan.open_of.Goals as goal
 pub loop-line-preserved : goal.loop-line-preserved
 loop-line-preserved g c = (
   omega arith,
-  c.after-line-seen.ensures
+  c.after_line-seen.ensures
       ∙ told_next c.args.thread c.args.log.now c.loop-line.line-index c.line-item.result c.loop-line.seen c.loop-line-test.true c.line-item.is c.loop-line.invariant.1,
 )
 

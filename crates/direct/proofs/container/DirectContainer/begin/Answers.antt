@@ -9,14 +9,14 @@ use Rattle.direct.specs.Fields.{held}
 use Rattle.direct.specs.Steps.{inside, begin_same, begun_now}
 use Rattle.direct.proofs.container.DirectContainer.begin.Goals as goal
 
-pub returns-in-err-may-begin : goal.returns-in-err-may-begin
-returns-in-err-may-begin c =
+pub returns-in_err-may_begin : goal.returns-in_err-may_begin
+returns-in_err-may_begin c =
     let d = c.args.self.now in
     let rs = take d.threads d.rows in
     let long : length rs ≡ d.threads = length-take-le d.threads d.rows (omega (arith, d.few, d.eight)) in
-    let busy : c.is-some-busy.result ≡ is_some (own_of rs c.args.thread) = c.is-some-busy.ensures ∙ ap is_some c.waiting.ensures in
-    let p = err_from_is_err_and c.from-residual.result c.from-residual.ensures.1 in
-    let e = rw busy at c.in-err-may-begin.ensures in
+    let busy : c.is_some-busy.result ≡ is_some (own_of rs c.args.thread) = c.is_some-busy.ensures ∙ ap is_some c.waiting.ensures in
+    let p = err_from_is_err_and c.from_residual.result c.from_residual.ensures.1 in
+    let e = rw busy at c.in_err-may_begin.ensures in
     rw (p.1, p.2)
     (record {
       means = λ sound. (sound, (ap first_row (begin_same d.capacity (held d) rs d.given d.threads long c.args.thread c.args.op) ∙ e, refl));
@@ -28,8 +28,8 @@ returns c =
     let d = c.args.self.now in
     let rs = take d.threads d.rows in
     let long : length rs ≡ d.threads = length-take-le d.threads d.rows (omega (arith, d.few, d.eight)) in
-    let busy : c.is-some-busy.result ≡ is_some (own_of rs c.args.thread) = c.is-some-busy.ensures ∙ ap is_some c.waiting.ensures in
-    let e = rw busy at c.in-ok-may-begin.ensures in
+    let busy : c.is_some-busy.result ≡ is_some (own_of rs c.args.thread) = c.is_some-busy.ensures ∙ ap is_some c.waiting.ensures in
+    let e = rw busy at c.in_ok-may_begin.ensures in
     let t = c.args.thread in
     let b = inside 1 d.threads t 20 _ e in
     let put = take-set-lt d.threads d.rows (t - 1) _ (omega arith) in

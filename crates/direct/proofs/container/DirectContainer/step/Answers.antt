@@ -9,14 +9,14 @@ use Rattle.direct.specs.Fields.{held}
 use Rattle.direct.specs.Steps.{inside, step_same, moved, falls}
 use Rattle.direct.proofs.container.DirectContainer.step.Goals as goal
 
-pub returns-in-err-may-step : goal.returns-in-err-may-step
-returns-in-err-may-step c =
+pub returns-in_err-may_step : goal.returns-in_err-may_step
+returns-in_err-may_step c =
     let d = c.args.self.now in
     let rs = take d.threads d.rows in
     let long : length rs ≡ d.threads = length-take-le d.threads d.rows (omega (arith, d.few, d.eight)) in
-    let busy : c.is-some.result ≡ is_some (own_of rs c.args.thread) = c.is-some.ensures ∙ ap is_some c.waiting-row.ensures in
-    let p = err_from_is_err_and c.from-residual.result c.from-residual.ensures.1 in
-    let e = rw busy at c.in-err-may-step.ensures in
+    let busy : c.is_some.result ≡ is_some (own_of rs c.args.thread) = c.is_some.ensures ∙ ap is_some c.waiting-row.ensures in
+    let p = err_from_is_err_and c.from_residual.result c.from_residual.ensures.1 in
+    let e = rw busy at c.in_err-may_step.ensures in
     rw (p.1, p.2)
     (record {
       means = λ sound. (sound, (ap first_row (step_same d.capacity (held d) rs d.given d.threads long c.args.thread) ∙ e, refl));
@@ -28,12 +28,12 @@ returns c =
     let d = c.args.self.now in
     let rs = take d.threads d.rows in
     let long : length rs ≡ d.threads = length-take-le d.threads d.rows (omega (arith, d.few, d.eight)) in
-    let busy : c.is-some.result ≡ is_some (own_of rs c.args.thread) = c.is-some.ensures ∙ ap is_some c.waiting-row.ensures in
-    let e = rw busy at c.in-ok-may-step.ensures in
+    let busy : c.is_some.result ≡ is_some (own_of rs c.args.thread) = c.is_some.ensures ∙ ap is_some c.waiting-row.ensures in
+    let e = rw busy at c.in_ok-may_step.ensures in
     let t = c.args.thread in
     let b = inside 1 d.threads t 20 _ e in
     let put = take-set-lt d.threads d.rows (t - 1) None (omega arith) in
-    let w : Waiting = c.in-Some.own_val in
+    let w : Waiting = c.in-Some.own in
     let own : own_of rs t ≡ Some w = sym c.waiting-row.ensures ∙ c.in-Some.is in
     let does = c.perform-answer.ensures in
     record {

@@ -15,5 +15,5 @@ returns-then-thread-lt1 g c =
 pub returns : goal.returns
 returns g c =
     let b = c.args.self.now in
-    let does : Looks b.threads (vec_items b.log) c.args.thread (Ok c.open-of.result) = search rules in
-    record { does = does; history = goes_on g.C.Container g.K.Kind b b (Look c.args.thread (Ok c.open-of.result)) (does, refl) }
+    let does : Looks b.threads (vec_items b.log) c.args.thread (Ok c.open_of.result) = search rules in
+    record { does = does; history = goes_on g.C.Container g.K.Kind b b (Look c.args.thread (Ok c.open_of.result)) (does, refl) }

@@ -8,8 +8,8 @@ use Rattle.stepping.proofs.Logs.{calls_more, rest_more}
 use Rattle.stepping.proofs.History.{leads_push, leads_log, runs_on}
 use Rattle.stepping.proofs.running.Running.run.Goals as goal
 
-pub offset-bounds-events-i : goal.offset-bounds-events-i
-offset-bounds-events-i g c =
+pub offset_bounds-events-i : goal.offset_bounds-events-i
+offset_bounds-events-i g c =
     let h : c.loop-i.i < length c.args.events.now = omega (arith, c.loop-i-test.true, c.loop-i.invariant.1, c.loop-i.auto.events) in search rules
 
 pub loop-i-preserved : goal.loop-i-preserved
