@@ -11,19 +11,19 @@ returns-then-n-lt10 t c =
     let one = decimal_digit c.args.n c.if-n-lt10.true in
     puts_is (sym one) (puts_byte _ c.args.at c.args.output.now (omega (arith, ap length one)))
 
-pub put-number-last-requires : goal.put-number-last-requires
-put-number-last-requires t c = omega (arith, length_step c.args.n c.if-n-lt10.false (omega arith))
+pub put_number-last-requires : goal.put_number-last-requires
+put_number-last-requires t c = omega (arith, length_step c.args.n c.if-n-lt10.false (omega arith))
 
 pub bounds-output-last : goal.bounds-output-last
 bounds-output-last t c =
     let more = length_step c.args.n c.if-n-lt10.false (omega arith) in
-    omega (arith, more, c.put-number-last.ensures.place)
+    omega (arith, more, c.put_number-last.ensures.place)
 
 pub returns : goal.returns
 returns t c =
     let n = c.args.n in
     let fits : n < 2 ^ 64 = omega arith in
     let more = length_step n c.if-n-lt10.false fits in
-    let last = c.put-number-last.result in
-    let here : last < length c.put-number-last.new.output = omega (arith, more, c.put-number-last.ensures.place) in
-    puts_is (sym (decimal_step n c.if-n-lt10.false fits)) (then_puts c.put-number-last.ensures (puts_byte _ last c.put-number-last.new.output here))
+    let last = c.put_number-last.result in
+    let here : last < length c.put_number-last.new.output = omega (arith, more, c.put_number-last.ensures.place) in
+    puts_is (sym (decimal_step n c.if-n-lt10.false fits)) (then_puts c.put_number-last.ensures (puts_byte _ last c.put_number-last.new.output here))

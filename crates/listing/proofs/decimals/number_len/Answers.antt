@@ -3,8 +3,8 @@ use Rattle.std.proofs.lemmas.Fmt.{decimal_digit, length-decimal-le}
 use Rattle.listing.proofs.Putting.{length_step}
 use Rattle.listing.proofs.decimals.number_len.Goals as goal
 
-pub overflow-add-count : goal.overflow-add-count
-overflow-add-count c =
+pub overflow_add-count : goal.overflow_add-count
+overflow_add-count c =
     let few = length-decimal-le 20 c.args.n (omega arith) (omega arith) (omega arith) in
     omega arith
 

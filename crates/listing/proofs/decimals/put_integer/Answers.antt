@@ -7,5 +7,5 @@ pub returns : goal.returns
 returns c =
     let n = c.args.n in
     let low : n <ℤ pos 0 = omega (arith, ints) in
-    let e : c.unsigned-abs.result ≡ nat_abs n = omega (arith, ints) in
-    puts_is (ap (λ d. 45 ∷ decimal d) e ∙ below_zero n low) (then_puts c.put-text-digits.ensures c.put-number-2.ensures)
+    let e : c.unsigned_abs.result ≡ nat_abs n = omega (arith, ints) in
+    puts_is (ap (λ d. 45 ∷ decimal d) e ∙ below_zero n low) (then_puts c.put_text-digits.ensures c.put_number-2.ensures)

@@ -7,8 +7,8 @@ use Rattle.listing.proofs.Joining.{listing_more, length_part}
 use Rattle.listing.proofs.Putting.{then_puts, puts_is, room_next}
 use Rattle.listing.proofs.logs.list.Goals as goal
 
-pub put-line-at-requires : goal.put-line-at-requires
-put-line-at-requires g c =
+pub put_line-at-requires : goal.put_line-at-requires
+put_line-at-requires g c =
     let text = g.T.WriteItem.text in
     let log = c.args.log.now in
     let i = c.loop-entry.entry-index in
@@ -20,7 +20,7 @@ put-line-at-requires g c =
 pub loop-entry-preserved : goal.loop-entry-preserved
 loop-entry-preserved g c =
     puts_is (listing_more g.T.WriteItem.text c.args.log.now c.loop-entry.entry-index c.entry-item.result c.loop-entry-test.true c.entry-item.is)
-    (then_puts c.loop-entry.invariant c.put-line-at.ensures)
+    (then_puts c.loop-entry.invariant c.put_line-at.ensures)
 
 pub returns : goal.returns
 returns g c =

@@ -6,7 +6,7 @@ use Rattle.listing.proofs.write_item.PointWriteItem.text_len.Goals as goal
 
 pub returns : goal.returns
 returns c =
-    let x = ap (λ n. length (signed_decimal n)) (cast_is c.x.result c.x.type-inv ∙ c.x.ensures) in
-    let y = ap (λ n. length (signed_decimal n)) (cast_is c.y.result c.y.type-inv ∙ c.y.ensures) in
-    let z = ap (λ n. length (signed_decimal n)) (cast_is c.z.result c.z.type-inv ∙ c.z.ensures) in
+    let x = ap (λ n. length (signed_decimal n)) (cast_is c.x.result c.x.type_inv ∙ c.x.ensures) in
+    let y = ap (λ n. length (signed_decimal n)) (cast_is c.y.result c.y.type_inv ∙ c.y.ensures) in
+    let z = ap (λ n. length (signed_decimal n)) (cast_is c.z.result c.z.type_inv ∙ c.z.ensures) in
     record { value = omega (arith, point_length c.args.self.now, x, y, z); small = omega arith }
