@@ -8,6 +8,6 @@ use Rattle.descriptor_vector.proofs.vector.DescriptorVector.new.Goals as goal
 pub returns : goal.returns
 returns g c = record {
   memory = refl;
-  table = c.table-of-table.ensures;
-  unset = ap (λ (T : Table). (shown T (g.M.Memory.words c.args.memory)).meaning) c.table-of-table.ensures ∙ means_nothing (g.M.Memory.words c.args.memory);
+  table = c.table_of-table.ensures;
+  unset = ap (λ (T : Table). (shown T (g.M.Memory.words c.args.memory)).meaning) c.table_of-table.ensures ∙ means_nothing (g.M.Memory.words c.args.memory);
 }
