@@ -26,7 +26,7 @@ abbrev pub bucketed_words : BucketedMemory → List ℕ
 bucketed_words m = joined (vec_items m.buckets)
 
 -- the vector under a lock over a memory
-abbrev pub lock_vector : {M : Type 0} → (M → List ℕ) → Container (LockVector M)
+abbrev pub lock_vector : {M : Type 0} (words : M → List ℕ) → Container (LockVector M (record { words = words }))
 lock_vector words = record {
   shows = λ v. lock_meaning.shown v.table (words v.memory);
   sound = λ v. lock_meaning.Sound v.table (words v.memory);
@@ -36,7 +36,7 @@ lock_vector words = record {
 }
 
 -- the descriptor vector over a memory
-abbrev pub descriptor_vector : {M : Type 0} → (M → List ℕ) → Container (DescriptorVector M)
+abbrev pub descriptor_vector : {M : Type 0} (words : M → List ℕ) → Container (DescriptorVector M (record { words = words }))
 descriptor_vector words = record {
   shows = λ v. descriptor_meaning.shown v.table (words v.memory);
   sound = λ v. descriptor_meaning.Sound v.table (words v.memory);

@@ -22,8 +22,8 @@ pub fn play_lock<M: Memory + Drop, K: Kind>(
     calls: &[Call<K::Item>],
 ) -> Result<Played<LockVector<M>, K>, AllocError>
     ensures called { IfOk result (λ p. map call_of p.events.items ≡ calls.now) }
-    ensures performed { IfOk result (λ p. (start : LockVector M) × (((lock_vector M.words).shows start).meaning ≡ unset) × (((lock_vector M.words).shows start).words ≡ M.words memory) × Performed (lock_vector M.words) K.Kind [] start p.events.items p.closed.container) }
-    ensures law { IfOk result (λ p. LawOfRuns value 48 p.events.items p.closed.log.items ((lock_vector M.words).shows p.closed.container).meaning) }
+    ensures performed { IfOk result (λ p. (start : LockVector M M.Memory) × (((lock_vector M.words).shows start).meaning ≡ unset) × (((lock_vector M.words).shows start).words ≡ M.words memory) × Performed (lock_vector M.words) K.Kind [] start p.events.items p.closed.container) }
+    ensures law { IfOk result (λ p. LawOfRuns K.value 48 p.events.items p.closed.log.items ((lock_vector M.words).shows p.closed.container).meaning) }
 {
     play_over::<M, LockVector<M>, K>(heap, memory, calls)
 }
@@ -35,8 +35,8 @@ pub fn play_descriptor<M: Memory + Drop, K: Kind>(
     calls: &[Call<K::Item>],
 ) -> Result<Played<DescriptorVector<M>, K>, AllocError>
     ensures called { IfOk result (λ p. map call_of p.events.items ≡ calls.now) }
-    ensures performed { IfOk result (λ p. (start : DescriptorVector M) × (((descriptor_vector M.words).shows start).meaning ≡ unset) × (((descriptor_vector M.words).shows start).words ≡ M.words memory) × Performed (descriptor_vector M.words) K.Kind [] start p.events.items p.closed.container) }
-    ensures law { IfOk result (λ p. LawOfRuns value 48 p.events.items p.closed.log.items ((descriptor_vector M.words).shows p.closed.container).meaning) }
+    ensures performed { IfOk result (λ p. (start : DescriptorVector M M.Memory) × (((descriptor_vector M.words).shows start).meaning ≡ unset) × (((descriptor_vector M.words).shows start).words ≡ M.words memory) × Performed (descriptor_vector M.words) K.Kind [] start p.events.items p.closed.container) }
+    ensures law { IfOk result (λ p. LawOfRuns K.value 48 p.events.items p.closed.log.items ((descriptor_vector M.words).shows p.closed.container).meaning) }
 {
     play_over::<M, DescriptorVector<M>, K>(heap, memory, calls)
 }
