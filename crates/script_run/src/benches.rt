@@ -46,7 +46,7 @@ fn on_memory<M: Memory + Drop, K: Kind<Item = T>, T: ReadItem + WriteItem + Copy
     script: Script,
     output: &mut [u8],
 ) -> Result<Result<usize, Fault>, AllocError>
-    ensures { Done result (λ o. ByContainer M.words (words memory) K.Kind T.WriteItem.text (script_asks script.entry.line script.entry.header (left T.ReadItem.reads script.entry.lines)) output.old o output.new script.entry.header.container) (output.new ≡ output.old) }
+    ensures { Done result (λ o. ByContainer M.words (M.words memory) K.Kind T.WriteItem.text (script_asks script.entry.line script.entry.header (left T.ReadItem.reads script.entry.lines)) output.old o output.new script.entry.header.container) (output.new ≡ output.old) }
 {
     match script.header.container {
         ContainerChoice::Descriptor => {

@@ -11,12 +11,12 @@ returns-in-Err g c =
 pub returns-in-Ok-list : goal.returns-in-Ok-list
 returns-in-Ok-list g c =
     ran_so g.C.Container g.K.Kind g.T.WriteItem.text _ _ _ _ _ _ _ _ _ _ _ c.over.ensures.0 c.over.ensures.1
-    (c.in-Ok.ensures.led c.over.ensures.0) c.in-default-verdict.ensures c.close-closed.ensures.law
+    (c.in-Ok.ensures.led c.over.ensures.0) c.in_default-verdict.ensures c.close-closed.ensures.law
     (simp c.records.ensures at c.in-Ok-list.ensures)
 
 pub returns : goal.returns
 returns g c =
     let wrote = simp c.records.ensures at c.in-Err-list.ensures in
     ran_so g.C.Container g.K.Kind g.T.WriteItem.text _ _ _ _ _ _ _ _ _ _ _ c.over.ensures.0 c.over.ensures.1
-    (c.in-Ok.ensures.led c.over.ensures.0) c.in-default-verdict.ensures c.close-closed.ensures.law
+    (c.in-Ok.ensures.led c.over.ensures.0) c.in_default-verdict.ensures c.close-closed.ensures.law
     ((wrote.0, wrote.1, refl), ap (at_line 0) wrote.2)

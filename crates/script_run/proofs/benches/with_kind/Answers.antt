@@ -8,24 +8,24 @@ use Rattle.script_run.specs.Outcomes.{Done}
 use Rattle.script_run.specs.Scripts.{ByContainer}
 use Rattle.script_run.proofs.benches.with_kind.Goals as goal
 
-pub returns-in-ok-new : goal.returns-in-ok-new
-returns-in-ok-new g c =
+pub returns-in_ok-new-in-Flat : goal.returns-in_ok-new-in-Flat
+returns-in_ok-new-in-Flat g c =
     let script = c.args.script in
     let done =
     subst
-    (λ (ws : List ℕ). Done c.on-memory.result (λ o. ByContainer flat_words ws g.K.Kind g.T.WriteItem.text
-    (script_asks script.line script.header (left g.T.ReadItem.reads script.lines)) c.args.output.now o c.on-memory.new.output script.header.container)
-    (c.on-memory.new.output ≡ c.args.output.now))
-    c.in-ok-new.ensures c.on-memory.ensures in
+    (λ (ws : List ℕ). Done c.on_memory.result (λ o. ByContainer flat_words ws g.K.Kind g.T.WriteItem.text
+    (script_asks script.line script.header (left g.T.ReadItem.reads script.lines)) c.args.output.now o c.on_memory.new.output script.header.container)
+    (c.on_memory.new.output ≡ c.args.output.now))
+    c.in_ok-new-in-Flat.ensures c.on_memory.ensures in
     simp c.in-Flat.is done
 
-pub returns-in-ok-new-2 : goal.returns-in-ok-new-2
-returns-in-ok-new-2 g c =
+pub returns-in_ok-new-in-Bucketed : goal.returns-in_ok-new-in-Bucketed
+returns-in_ok-new-in-Bucketed g c =
     let script = c.args.script in
     let done =
     subst
-    (λ (ws : List ℕ). Done c.on-memory-in-Bucketed.result (λ o. ByContainer bucketed_words ws g.K.Kind g.T.WriteItem.text
-    (script_asks script.line script.header (left g.T.ReadItem.reads script.lines)) c.args.output.now o c.on-memory-in-Bucketed.new.output script.header.container)
-    (c.on-memory-in-Bucketed.new.output ≡ c.args.output.now))
-    c.in-ok-new-2.ensures.0 c.on-memory-in-Bucketed.ensures in
+    (λ (ws : List ℕ). Done c.on_memory-in-Bucketed.result (λ o. ByContainer bucketed_words ws g.K.Kind g.T.WriteItem.text
+    (script_asks script.line script.header (left g.T.ReadItem.reads script.lines)) c.args.output.now o c.on_memory-in-Bucketed.new.output script.header.container)
+    (c.on_memory-in-Bucketed.new.output ≡ c.args.output.now))
+    c.in_ok-new-in-Bucketed.ensures.0 c.on_memory-in-Bucketed.ensures in
     simp c.in-Bucketed.is done

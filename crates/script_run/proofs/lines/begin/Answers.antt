@@ -3,7 +3,7 @@ use Rattle.stepping.specs.declared.Event.TheVariants.{Begin}
 use Rattle.script_run.proofs.lines.begin.Goals as goal
 
 pub returns-in-Ok : goal.returns-in-Ok
-returns-in-Ok g c = (Begin c.args.thread c.args.op (Ok c.in-Ok.-number), _, refl, c.in-Ok.ensures.does, (refl, refl))
+returns-in-Ok g c = (Begin c.args.thread c.args.op (Ok c.in-Ok._number), _, refl, c.in-Ok.ensures.does, (refl, refl))
 
 pub returns-in-Err : goal.returns-in-Err
 returns-in-Err g c = (Begin c.args.thread c.args.op (Err c.in-Err.refusal), _, refl, c.in-Err.ensures.does, (refl, refl))

@@ -10,4 +10,4 @@ returns-in-Err g c =
 pub loop-preserved : goal.loop-preserved
 loop-preserved g c end r rest =
     let more : c.args.count - c.loop.counter ≡ suc (c.args.count - (c.loop.counter + 1)) = omega arith in
-    c.loop.invariant end r (rw more (Step c.args.thread (Ok c.in-Ok.-done), _, refl, c.in-Ok.ensures.does, rest))
+    c.loop.invariant end r (rw more (Step c.args.thread (Ok c.in-Ok._done), _, refl, c.in-Ok.ensures.does, rest))
