@@ -16,5 +16,5 @@ returns c = record {
   minus_one = refl;
   locked_push = refl;
   locked_size = refl;
-  descriptor_runs = c.played-runs.ensures;
+  descriptor_runs = c.played_runs.ensures;
 }
