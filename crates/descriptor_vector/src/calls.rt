@@ -5,8 +5,8 @@ ghost use Rattle.descriptor_vector.specs.Sound.{shown};
 ghost use Rattle.vector.specs.Meaning.{unset};
 
 use crate::rows::{first_stage, row_of};
+use crate::structure::DescriptorVector;
 use crate::table::Table;
-use crate::vector::DescriptorVector;
 use descriptor_steps::{Plan, Row, access_at, lead};
 use descriptor_words::perform;
 use memory::Memory;

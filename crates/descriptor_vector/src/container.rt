@@ -4,7 +4,7 @@ ghost use Rattle.descriptor_vector.specs.Sound.{shown, Sound};
 ghost use Rattle.descriptor_vector.specs.Keeps;
 ghost use Rattle.std.proofs.Common.{inl};
 
-use crate::vector::DescriptorVector;
+use crate::structure::DescriptorVector;
 use memory::Memory;
 use refusal::Refusal;
 use vector::{Container, Op, Over, Stepped};

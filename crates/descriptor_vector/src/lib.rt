@@ -4,8 +4,8 @@
 mod calls;
 mod container;
 mod rows;
+mod structure;
 mod table;
-mod vector;
 
 pub use descriptor_steps::played_runs;
-pub use vector::DescriptorVector;
+pub use structure::DescriptorVector;

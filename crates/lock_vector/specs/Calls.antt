@@ -1,6 +1,6 @@
 -- What each call does to the table of threads and to the words of the memory, sound or not: it is refused just as its table of
 -- refusals says, and alters nothing then; else here are the table, the answer and every word after it.
-use Rattle.std.specs.Prelude.{◌≡◌, ℕ, suc, ◌+◌, ◌-◌, ◌<◌, ◌≤◌, Bool, true, false, cond, not, List, [], ◌∷◌, length, set, replicate, None, Ok, Err, Result, ◌==◌, nat_le, slice_index, slice_index_or, slice_set}
+use Rattle.std.specs.Prelude.{◌≡◌, ℕ, suc, ◌+◌, ◌-◌, ◌<◌, ◌≤◌, Bool, true, false, cond, not, List, [], ◌∷◌, length, replicate, None, Ok, Err, Result, ◌==◌, nat_le, slice_index, slice_index_or, slice_set}
 use Rattle.refusal.specs.declared.Refusal.{Refusal}
 use Rattle.refusal.specs.declared.Refusal.TheVariants.{NoSuchLocation}
 use Rattle.memory.specs.declared.Swapped.{Swapped}

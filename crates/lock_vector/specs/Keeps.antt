@@ -1,5 +1,5 @@
 -- Every call keeps a sound vector sound, and does to its meaning what a container does: from the tables of the calls alone.
-use Rattle.std.specs.Prelude.{◌≡◌, ℕ, zero, suc, ◌-◌, ◌<◌, ◌≤◌, min, true, false, not, ◌≢◌, List, [], ◌∷◌, map, length, get_or, take, set, replicate, None, Ok, Err, Result, nat_le, nat_lt, slice_index, slice_index_or, slice_set, refl}
+use Rattle.std.specs.Prelude.{◌≡◌, ℕ, zero, suc, ◌-◌, ◌<◌, ◌≤◌, min, true, false, not, ◌≢◌, List, [], ◌∷◌, map, length, get_or, take, replicate, None, Ok, Err, Result, nat_le, nat_lt, slice_index, slice_index_or, slice_set, refl}
 use Rattle.std.proofs.Common.{sym, ap, subst, ◌∙◌, inl, inr, arith}
 use Rattle.std.proofs.lemmas.List.{length-set, get_or-set_same, get_or-set_other, take-replicate, length-take-le}
 use Rattle.std.proofs.lemmas.Bool.{cases_eq, cases_Bool, not-false, ltb-false, lt-leb}

@@ -1,5 +1,5 @@
 -- Where the words of a row of buckets stand. Assumes nothing.
-use Rattle.std.proofs.Common.{◌≡◌, ℕ, zero, suc, ◌+◌, ◌-◌, ◌*◌, ◌^◌, ◌<◌, ◌≤◌, Bool, true, false, cond, ltb, ◌≢◌, List, [], ◌∷◌, ◌++◌, map, length, get_or, take, set, replicate, Ok, vec_items, vec_len, sym, refl, ap, ◌∙◌, subst, ap₂, le_of_suc-le-suc, not-suc-le-zero, add_assoc, suc-add, zero-add, arith, length-append, get_or-append-add, ltb-false}
+use Rattle.std.proofs.Common.{◌≡◌, ℕ, zero, suc, ◌+◌, ◌<◌, ◌≤◌, Bool, true, false, cond, ltb, List, [], ◌∷◌, ◌++◌, length, get_or, take, set, replicate, Ok, vec_items, vec_len, sym, refl, ap, ◌∙◌, subst, ap₂, le_of_suc-le-suc, not-suc-le-zero, add_assoc, suc-add, zero-add, arith, length-append, get_or-append-add, ltb-false}
 use lib.ListN.{length-replicate, get_or-append}
 use lib.Seq.{set-append_left}
 use mir.Val.{bool_byte}
@@ -11,7 +11,7 @@ use Rattle.memory.specs.declared.Swapped.{Swapped}
 use Rattle.memory.specs.declared.Swapped.TheVariants.{Yes, No}
 use Rattle.memory.specs.declared.bucket.Bucket.{Bucket}
 use Rattle.memory.specs.Buckets.{six, start, size_of, Placed, all_shut, bucket_of, count_open, Opens}
-use Rattle.memory.specs.Shown.{padded, shown, joined, sizes, is_open, opened}
+use Rattle.memory.specs.Shown.{shown, joined, sizes, is_open, opened}
 
 set_same : (bs : List Bucket) (k : ℕ) (d : Bucket) → set bs k (get_or bs k d) ≡ bs
 set_same [] k d = refl

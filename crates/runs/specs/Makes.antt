@@ -14,7 +14,7 @@ use Rattle.lock_vector.specs.Meaning as lock_meaning
 use Rattle.lock_vector.specs.declared.LockVector.{LockVector}
 use Rattle.descriptor_vector.specs.Calls as descriptor_calls
 use Rattle.descriptor_vector.specs.Sound as descriptor_meaning
-use Rattle.descriptor_vector.specs.declared.vector.DescriptorVector.{DescriptorVector}
+use Rattle.descriptor_vector.specs.declared.structure.DescriptorVector.{DescriptorVector}
 
 abbrev pub numbers : Kind Numbers ℤ
 numbers = record { value = number_value; item = value_number; proper = IsNumber }

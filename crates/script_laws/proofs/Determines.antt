@@ -3,7 +3,7 @@
 use Rattle.std.proofs.Common.{◌≡◌, ℕ, ◌^◌, ◌<◌, Bool, true, false, cond, eqb, ◌⊎◌, List, [], ◌∷◌, ◌++◌, length, get_or, ℤ, Some, None, Ok, Err, codes, decimal, Option, Result, sym, refl, ap, ◌∙◌, subst, ap₂, inl, inr, ⊎_elim, append_assoc, arith}
 use Rattle.std.proofs.lemmas.Fmt.{decimal_injective}
 use Rattle.std.proofs.lemmas.Bool.{cond-true, eq-eqb, false≢true, cases_cond}
-use Rattle.std.specs.List.{slice_get, AllZip, AllByRecursion as All}
+use Rattle.std.specs.List.{slice_get, AllZip, AllByRecursion}
 use Rattle.std.specs.Fmt.{signed_decimal}
 use Rattle.refusal.specs.declared.Refusal.{Refusal}
 use Rattle.refusal.specs.declared.Refusal.TheVariants.{NotOfAForm}
@@ -133,7 +133,7 @@ module _ {T : Type 0} (text : T → List ℕ) (reads : List ℕ → Result T Ref
       let z : ◌≡◌ {A = ℕ} 0 1 = cc in
       omega arith
 
-  all_alike : (log other : List (Record T)) → All (SayableRecord Item) log → All (SayableRecord Item) other → listing text log ≡ listing text other → AllZip (Alike text) log other
+  all_alike : (log other : List (Record T)) → AllByRecursion (SayableRecord Item) log → AllByRecursion (SayableRecord Item) other → listing text log ≡ listing text other → AllZip (Alike text) log other
   all_alike [] [] s s' e = tt
   all_alike [] (r ∷ rs) s s' e = some_line r rs s'.0 e
   all_alike (r ∷ rs) [] s s' e = some_line r rs s.0 (sym e)
@@ -217,7 +217,7 @@ module _ {T : Type 0} (text : T → List ℕ) (reads : List ℕ → Result T Ref
           let same : a ≡ b = same_answer p.1 a b p.3 can h.1 (subst (SayableRecord Item) e.1 k).1 e.2 in
           ap (End n) same ∙ sym e.1
 
-      same_part : (rs ss : List (Record T)) → ((x : Record T) → Among x rs → Among x log) → ((x : Record T) → Among x ss → Among x other) → All (SayableRecord Item) rs → All (SayableRecord Item) ss → AllZip (Alike text) rs ss → rs ≡ ss
+      same_part : (rs ss : List (Record T)) → ((x : Record T) → Among x rs → Among x log) → ((x : Record T) → Among x ss → Among x other) → AllByRecursion (SayableRecord Item) rs → AllByRecursion (SayableRecord Item) ss → AllZip (Alike text) rs ss → rs ≡ ss
       same_part [] [] i j h k e = refl
       same_part [] (s ∷ ss) i j h k e = absurd e
       same_part (r ∷ rs) [] i j h k e = absurd e

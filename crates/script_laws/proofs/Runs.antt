@@ -1,7 +1,7 @@
 -- In the log of a run each number begins one operation, and each end has an answer that a plain vector gave to it.
 use Rattle.std.proofs.Common.{◌≡◌, ℕ, Bool, true, false, cond, eqb, List, [], ◌∷◌, sym, refl, ap, ◌∙◌, subst, inl, inr, arith}
 use Rattle.std.proofs.lemmas.Bool.{eq-eqb, both_ways}
-use Rattle.std.specs.List.{AllByRecursion as All}
+use Rattle.std.specs.List.{AllByRecursion}
 use Rattle.vector.specs.Plain.{after}
 use Rattle.vector.specs.declared.Op.{Op}
 use Rattle.vector.specs.declared.Answer.{Answer}
@@ -11,7 +11,7 @@ use Rattle.stepping.specs.declared.Record.{Record}
 use Rattle.stepping.specs.declared.Record.TheVariants.{Begin, Effect, End}
 use Rattle.script_laws.specs.Laws.{CanAnswer, RunsAreAnswered}
 
-among_all : {X : Type 0} (P : X → Type 0) (xs : List X) (x : X) → All P xs → Among x xs → P x
+among_all : {X : Type 0} (P : X → Type 0) (xs : List X) (x : X) → AllByRecursion P xs → Among x xs → P x
 among_all P [] x h m = absurd m
 among_all P (y ∷ ys) x h (inl e) = subst P (sym e) h.0
 among_all P (y ∷ ys) x h (inr m) = among_all P ys x h.1 m

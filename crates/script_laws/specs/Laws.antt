@@ -1,7 +1,7 @@
 -- A listing determines its log, and its begin lines are lines of a script.
 use Rattle.std.specs.Prelude.{◌≡◌, ℕ, ◌^◌, ◌<◌, List, ◌++◌, ℤ, Ok, codes, decimal, Result}
 use Rattle.std.specs.Int.Signed.{mag}
-use Rattle.std.specs.List.{AllByRecursion as All}
+use Rattle.std.specs.List.{AllByRecursion}
 use Rattle.refusal.specs.declared.Refusal.{Refusal}
 use Rattle.items.specs.declared.point.Point.{Point}
 use Rattle.vector.specs.Plain.{answer}
@@ -72,5 +72,5 @@ RunsAreAnswered T =
 -- a listing determines the log
 abbrev pub ListingDetermines : {T : Type 0} → (T → List ℕ) → (T → Type 0) → Type 0
 ListingDetermines {T} text Item =
-    (log other : List (Record T)) → All (SayableRecord Item) log → All (SayableRecord Item) other → Answered log → Answered other
+    (log other : List (Record T)) → AllByRecursion (SayableRecord Item) log → AllByRecursion (SayableRecord Item) other → Answered log → Answered other
     → listing text log ≡ listing text other → log ≡ other

@@ -1,7 +1,7 @@
 -- What a log keeps true of what the container means, one record after the other: each record extends the course of one number, and
 -- what the log says of the other numbers and threads stands.
 use Rattle.std.proofs.Common.{◌≡◌, ℕ, suc, ◌-◌, ◌<◌, ◌≤◌, Bool, true, false, cond, eqb, ◌≢◌, ◌⊎◌, List, [], ◌∷◌, ◌++◌, map, length, set, Some, None, Ok, Option, sym, refl, ap, ◌∙◌, subst, inl, inr, arith, eq-eqb, ne_eqb}
-use Rattle.std.specs.List.{AllByRecursion as All}
+use Rattle.std.specs.List.{AllByRecursion}
 use Rattle.std.proofs.lemmas.List.{append-nil, append_assoc, map_push}
 use Rattle.std.proofs.ByRecursion.{All-push, All-weaker}
 use Rattle.std.proofs.lemmas.Bool.{cases_eq}
@@ -103,8 +103,8 @@ module _ {T : Type 0} where
     pub record Kept (log : List (Record T)) (m : Meaning) : Type 0 where
       pub ops : List (ℕ × Op T)
       pub in_order : InOrderOfEffect log ops
-      pub answered : All (λ e. Among e (plain_answers m.capacity [] ops)) (ends log)
-      pub come_back : All (Back value item) (plain_items m.capacity [] ops)
+      pub answered : AllByRecursion (λ e. Among e (plain_answers m.capacity [] ops)) (ends log)
+      pub come_back : AllByRecursion (Back value item) (plain_items m.capacity [] ops)
       pub items_meant : map value (plain_items m.capacity [] ops) ≡ m.items
       pub later : (n : ℕ) → m.given < n → about n log ≡ []
       pub backed : (t : ℕ) → Backed log (plain_answers m.capacity [] ops) t (row_of m.rows t)
@@ -146,7 +146,7 @@ module _ {T : Type 0} where
             by_effect = k.in_order.by_effect ∙ sym (joined_push effect_of log r ∙ append-nil (effects log));
             begun = All-weaker _ _ (λ q h. (h.0, subst (Among (q.0, h.0, q.1)) (sym (joined_push begin_of log r)) (among_left (q.0, h.0, q.1) (begins log) ((n, t, o) ∷ []) h.1))) k.ops k.in_order.begun;
           };
-          answered = subst (All (λ e. Among e xs)) (sym (joined_push end_of log r ∙ append-nil (ends log))) k.answered;
+          answered = subst (AllByRecursion (λ e. Among e xs)) (sym (joined_push end_of log r ∙ append-nil (ends log))) k.answered;
           come_back = k.come_back;
           items_meant = k.items_meant;
           later = λ j h. about_other log r j (omega arith) ∙ k.later j (omega arith);
@@ -190,12 +190,12 @@ module _ {T : Type 0} where
           ops = k.ops ++ (n, o) ∷ [];
           in_order = record {
             by_effect = map_push (λ q. q.0) k.ops (n, o) ∙ ap (λ l. l ++ n ∷ []) k.in_order.by_effect ∙ sym (joined_push effect_of log r);
-            begun = subst (λ (l : List (ℕ × ℕ × Op T)). All (λ q. (u : ℕ) × Among (q.0, u, q.1) l) (k.ops ++ (n, o) ∷ [])) (sym (joined_push begin_of log r ∙ append-nil (begins log)))
+            begun = subst (λ (l : List (ℕ × ℕ × Op T)). AllByRecursion (λ q. (u : ℕ) × Among (q.0, u, q.1) l) (k.ops ++ (n, o) ∷ [])) (sym (joined_push begin_of log r ∙ append-nil (begins log)))
                 (All-push _ k.ops (n, o) k.in_order.begun (t, begun_about log n t o [] was));
           };
-          answered = subst (All (λ e. Among e (plain_answers c [] (k.ops ++ (n, o) ∷ [])))) (sym (joined_push end_of log r ∙ append-nil (ends log)))
+          answered = subst (AllByRecursion (λ e. Among e (plain_answers c [] (k.ops ++ (n, o) ∷ [])))) (sym (joined_push end_of log r ∙ append-nil (ends log)))
               (All-weaker _ _ (λ e h. subst (Among e) (sym more) (among_left e xs ys h)) (ends log) k.answered);
-          come_back = subst (All (Back value item)) (sym (items_push c [] k.ops n o)) (after_back value item c held o b.2 k.come_back);
+          come_back = subst (AllByRecursion (Back value item)) (sym (items_push c [] k.ops n o)) (after_back value item c held o b.2 k.come_back);
           items_meant = ap (map value) (items_push c [] k.ops n o) ∙ sym (after_map value c held o) ∙ ap (λ l. after c l (map_op value o)) k.items_meant ∙ ap (after c m.items) (sym b.1);
           later = λ j h. about_other log r j (λ e. let g : about n log ≡ [] = k.later n (omega (arith, e)) in let z : ◌≡◌ {A = ℕ} 0 1 = cc in omega arith) ∙ k.later j h;
           backed = subst (λ (l : List (ℕ × Answer T)). (u : ℕ) → Backed (log ++ r ∷ []) l u (row_of (set m.rows (t - 1) new) u)) (sym more)
@@ -224,9 +224,9 @@ module _ {T : Type 0} where
           ops = k.ops;
           in_order = record {
             by_effect = k.in_order.by_effect ∙ sym (joined_push effect_of log r ∙ append-nil (effects log));
-            begun = subst (λ (l : List (ℕ × ℕ × Op T)). All (λ q. (u : ℕ) × Among (q.0, u, q.1) l) k.ops) (sym (joined_push begin_of log r ∙ append-nil (begins log))) k.in_order.begun;
+            begun = subst (λ (l : List (ℕ × ℕ × Op T)). AllByRecursion (λ q. (u : ℕ) × Among (q.0, u, q.1) l) k.ops) (sym (joined_push begin_of log r ∙ append-nil (begins log))) k.in_order.begun;
           };
-          answered = subst (All (λ e. Among e xs)) (sym (joined_push end_of log r)) (All-push _ (ends log) (n, map_answer item a) k.answered b.1);
+          answered = subst (AllByRecursion (λ e. Among e xs)) (sym (joined_push end_of log r)) (All-push _ (ends log) (n, map_answer item a) k.answered b.1);
           come_back = k.come_back;
           items_meant = k.items_meant;
           later = λ j h. about_other log r j (λ e. let g : about n log ≡ [] = k.later n (omega (arith, e)) in let z : ◌≡◌ {A = ℕ} 0 1 = cc in omega arith) ∙ k.later j h;

@@ -1,6 +1,6 @@
 -- The law of runs, by induction over the calls: `Held` is what every call keeps.
 use Rattle.std.proofs.Common.{◌≡◌, ℕ, ◌≤◌, ◌≢◌, List, [], ◌∷◌, ◌++◌, map, length, Some, None, Ok, Err, fold, Option, sym, refl, ap, ◌∙◌, subst, arith}
-use Rattle.std.specs.List.{flat_map, AllByRecursion as All}
+use Rattle.std.specs.List.{flat_map, AllByRecursion}
 use Rattle.std.proofs.lemmas.List.{append-nil, append_assoc}
 use Rattle.items.specs.declared.Kind.{Ghosts as Kind}
 use Rattle.vector.specs.Plain.{map_op}
@@ -218,7 +218,7 @@ module _ {C K T : Type 0} (c : Container C) (k : Kind K T) where
         record {
           ops = kept.ops;
           in_order = kept.in_order;
-          answered = subst (λ (n : ℕ). All (λ e. Among e (plain_answers n [] kept.ops)) (ends (recorded es))) capacity kept.answered;
+          answered = subst (λ (n : ℕ). AllByRecursion (λ e. Among e (plain_answers n [] kept.ops)) (ends (recorded es))) capacity kept.answered;
           capacity_meant = capacity;
           items_meant = subst (λ (n : ℕ). map k.value (plain_items n [] kept.ops) ≡ m.items) capacity kept.items_meant;
         }

@@ -1,7 +1,7 @@
 -- The law of runs: (a) the log is true, (b) the operations answer as a plain vector that takes them in order of effect,
 -- (c) a thread alone ends in time.
 use Rattle.std.specs.Prelude.{◌≡◌, ℕ, ◌+◌, ◌≤◌, cond, ◌≢◌, List, [], ◌∷◌, ◌++◌, map, Some, None, Ok, Err, fold, Option, ◌==◌}
-use Rattle.std.specs.List.{flat_map, AllByRecursion as All}
+use Rattle.std.specs.List.{flat_map, AllByRecursion}
 use Rattle.vector.specs.Plain.{answer, after}
 use Rattle.vector.specs.Meaning.{Meaning}
 use Rattle.vector.specs.declared.Op.{Op}
@@ -76,14 +76,14 @@ capacity_of es = fold named_capacity 0 es
 -- these are the operations that took effect, each with its number, in the order of their effects
 pub record InOrderOfEffect {T : Type 0} (log : List (Record T)) (ops : List (ℕ × Op T)) : Type 0 where
   pub by_effect : map (λ o. o.0) ops ≡ effects log
-  pub begun : All (λ o. (t : ℕ) × Among (o.0, t, o.1) (begins log)) ops
+  pub begun : AllByRecursion (λ o. (t : ℕ) × Among (o.0, t, o.1) (begins log)) ops
 
 -- A plain vector, empty at first, that takes the operations in order of effect gives each ended one the answer handed out, and then
 -- holds what the container means.
 pub record PlainlyOrdered {T : Type 0} (value : T → ℕ) (es : List (Event T)) (log : List (Record T)) (m : Meaning) : Type 0 where
   pub ops : List (ℕ × Op T)
   pub in_order : InOrderOfEffect log ops
-  pub answered : All (λ e. Among e (plain_answers (capacity_of es) [] ops)) (ends log)
+  pub answered : AllByRecursion (λ e. Among e (plain_answers (capacity_of es) [] ops)) (ends log)
   pub capacity_meant : m.capacity ≡ capacity_of es
   pub items_meant : map value (plain_items (capacity_of es) [] ops) ≡ m.items
 

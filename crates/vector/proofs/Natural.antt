@@ -1,6 +1,6 @@
 -- The plain vector does not look into its values: turned into others on the way in, they come out turned.
 use Rattle.std.proofs.Common.{◌≡◌, ℕ, zero, suc, Bool, true, false, cond, ltb, List, [], ◌∷◌, ◌++◌, map, length, set, Some, None, Option, sym, refl, ap}
-use Rattle.std.specs.List.{slice_get, AllByRecursion as All}
+use Rattle.std.specs.List.{slice_get, AllByRecursion}
 use Rattle.std.specs.Option.{option_map}
 use Rattle.std.proofs.lemmas.List.{length-map, map_push, map-set}
 use Rattle.std.proofs.ByRecursion.{All-push, All-set}
@@ -74,24 +74,24 @@ module _ {V W : Type 0} (f : V → W) (g : W → V) where
   abbrev pub Back : V → Type 0
   Back x = g (f x) ≡ x
 
-  read_back : (xs : List V) (i : ℕ) → All Back xs → map_answer g (map_answer f (value_or_out (slice_get xs i))) ≡ value_or_out (slice_get xs i)
+  read_back : (xs : List V) (i : ℕ) → AllByRecursion Back xs → map_answer g (map_answer f (value_or_out (slice_get xs i))) ≡ value_or_out (slice_get xs i)
   read_back [] i all = refl
   read_back (x ∷ xs) zero all = ap Value all.0
   read_back (x ∷ xs) (suc i) all = read_back xs i all.1
 
-  last_back : (v : V) (xs : List V) → Back v → All Back xs → Back (last v xs)
+  last_back : (v : V) (xs : List V) → Back v → AllByRecursion Back xs → Back (last v xs)
   last_back v [] h all = h
   last_back v (x ∷ xs) h all = last_back x xs all.0 all.1
 
-  but_last_back : (v : V) (xs : List V) → Back v → All Back xs → All Back (but_last v xs)
+  but_last_back : (v : V) (xs : List V) → Back v → AllByRecursion Back xs → AllByRecursion Back (but_last v xs)
   but_last_back v [] h all = tt
   but_last_back v (x ∷ xs) h all = (h, but_last_back x xs all.0 all.1)
 
-  popped_back : (xs : List V) → All Back xs → map_answer g (map_answer f (popped xs)) ≡ popped xs
+  popped_back : (xs : List V) → AllByRecursion Back xs → map_answer g (map_answer f (popped xs)) ≡ popped xs
   popped_back [] all = refl
   popped_back (x ∷ xs) all = ap Value (last_back x xs all.0 all.1)
 
-  after_pop_back : (xs : List V) → All Back xs → All Back (after_pop xs)
+  after_pop_back : (xs : List V) → AllByRecursion Back xs → AllByRecursion Back (after_pop xs)
   after_pop_back [] all = tt
   after_pop_back (x ∷ xs) all = but_last_back x xs all.0 all.1
 
@@ -99,22 +99,22 @@ module _ {V W : Type 0} (f : V → W) (g : W → V) where
   cond_back true x y p q = p
   cond_back false x y p q = q
 
-  pub answer_back : (k : ℕ) (xs : List V) (op : Op V) → All Back xs → map_answer g (map_answer f (answer k xs op)) ≡ answer k xs op
+  pub answer_back : (k : ℕ) (xs : List V) (op : Op V) → AllByRecursion Back xs → map_answer g (map_answer f (answer k xs op)) ≡ answer k xs op
   answer_back k xs (Push v) all = cond_back (ltb (length xs) k) (Position (length xs)) Full refl refl
   answer_back k xs Pop all = popped_back xs all
   answer_back k xs (Read i) all = read_back xs i all
   answer_back k xs (Write i v) all = cond_back (ltb i (length xs)) Done Out refl refl
   answer_back k xs Size all = refl
 
-  push_all : (b : Bool) (xs : List V) (v : V) → All Back xs → Back v → All Back (cond b (xs ++ v ∷ []) xs)
+  push_all : (b : Bool) (xs : List V) (v : V) → AllByRecursion Back xs → Back v → AllByRecursion Back (cond b (xs ++ v ∷ []) xs)
   push_all true xs v all h = All-push Back xs v all h
   push_all false xs v all h = all
 
-  write_all : (b : Bool) (xs : List V) (i : ℕ) (v : V) → All Back xs → Back v → All Back (cond b (set xs i v) xs)
+  write_all : (b : Bool) (xs : List V) (i : ℕ) (v : V) → AllByRecursion Back xs → Back v → AllByRecursion Back (cond b (set xs i v) xs)
   write_all true xs i v all h = All-set Back xs i v h all
   write_all false xs i v all h = all
 
-  pub after_back : (k : ℕ) (xs : List V) (op : Op V) → map_op g (map_op f op) ≡ op → All Back xs → All Back (after k xs op)
+  pub after_back : (k : ℕ) (xs : List V) (op : Op V) → map_op g (map_op f op) ≡ op → AllByRecursion Back xs → AllByRecursion Back (after k xs op)
   after_back k xs (Push v) e all = let h : Back v = cc in push_all (ltb (length xs) k) xs v all h
   after_back k xs Pop e all = after_pop_back xs all
   after_back k xs (Read i) e all = all

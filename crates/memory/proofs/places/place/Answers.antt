@@ -1,4 +1,4 @@
-use Rattle.std.proofs.Common.{◌^◌, ◌<◌, refl, arith}
+use Rattle.std.proofs.Common.{refl, arith}
 use Rattle.memory.proofs.Placing.{bounds, placed}
 use Rattle.memory.proofs.places.place.Goals as goal
 

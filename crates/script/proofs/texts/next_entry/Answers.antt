@@ -1,6 +1,6 @@
 use Rattle.std.proofs.Common.{◌≡◌, ◌<◌, length, Some, None, sym, ap, ◌∙◌, arith, rules}
 use Rattle.std.proofs.lemmas.Bool.{eqb-true, eqb-false}
-use Rattle.script.specs.Fields.{before, after}
+use Rattle.script.specs.Fields.{after}
 use Rattle.script.specs.Lines.{lines_of, entries, next_number}
 use Rattle.script.proofs.Cuts.{after_shorter, entry_bad, entry_text, entry_skipped, entry_last, no_entry}
 use Rattle.script.proofs.texts.next_entry.Goals as goal

@@ -1,4 +1,4 @@
-use Rattle.std.proofs.Common.{◌≡◌, ◌+◌, ℤ, pos, ◌+ℤ◌, nat_abs, ap, arith, w16, to_z, of_z}
+use Rattle.std.proofs.Common.{◌≡◌, ℤ, pos, ◌+ℤ◌, nat_abs, ap, arith, w16, to_z, of_z}
 use Rattle.std.proofs.lemmas.Int.{ints}
 use Rattle.items.specs.Coordinates.{Coordinate, ten_bits}
 use Rattle.items.proofs.points.PointsKind.to_value.Goals as goal

@@ -1,4 +1,4 @@
-use Rattle.std.proofs.Common.{◌≡◌, ◌<◌, length, set, vec_items, sym, ap, ◌∙◌, arith, length-set, rules}
+use Rattle.std.proofs.Common.{◌≡◌, length, set, vec_items, sym, ap, ◌∙◌, arith, length-set, rules}
 use Rattle.memory.proofs.Shows.{full}
 use Rattle.memory.proofs.bucket.Bucket.swap.Goals as goal
 

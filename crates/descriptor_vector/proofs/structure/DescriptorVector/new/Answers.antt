@@ -3,7 +3,7 @@ use Rattle.std.proofs.Common.{refl, ap, ◌∙◌}
 use Rattle.descriptor_vector.specs.declared.table.Table.{Table}
 use Rattle.descriptor_vector.specs.Sound.{shown}
 use Rattle.descriptor_vector.specs.Fresh.{means_nothing}
-use Rattle.descriptor_vector.proofs.vector.DescriptorVector.new.Goals as goal
+use Rattle.descriptor_vector.proofs.structure.DescriptorVector.new.Goals as goal
 
 pub returns : goal.returns
 returns g c = record {

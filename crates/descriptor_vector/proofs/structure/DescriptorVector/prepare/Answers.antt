@@ -1,6 +1,6 @@
 use Rattle.std.proofs.Common.{◌≡◌, ◌+◌, ◌-◌, ◌^◌, min, rules, arith}
 use Rattle.vector.proofs.Preparing.{cut}
-use Rattle.descriptor_vector.proofs.vector.DescriptorVector.prepare.Goals as goal
+use Rattle.descriptor_vector.proofs.structure.DescriptorVector.prepare.Goals as goal
 
 pub returns-in_err-may_set_up : goal.returns-in_err-may_set_up
 returns-in_err-may_set_up g c =
