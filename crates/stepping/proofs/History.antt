@@ -12,7 +12,7 @@ use Rattle.vector.specs.declared.Stepped.{Stepped}
 use Rattle.vector.specs.declared.container.Container.{Ghosts as Container}
 use Rattle.stepping.specs.Log.{records, recorded, begin_records, step_records}
 use Rattle.stepping.specs.Bench.{Logs, Makes, BenchBegins, Calls, Looks}
-use Rattle.stepping.specs.History.{Leads, Led, Goes_on, Does, Performed, Ran, RunsOn}
+use Rattle.stepping.specs.History.{Leads, Led, GoesOn, Does, Performed, Ran, RunsOn}
 use Rattle.stepping.specs.declared.Record.{Record}
 use Rattle.stepping.specs.declared.Event.{Event}
 use Rattle.stepping.specs.declared.Event.TheVariants.{SetUp as SetUpCall, Begin as BeginCall, Step as StepCall, Look as LookCall}
@@ -35,7 +35,7 @@ module _ {C K T : Type 0} (c : Container C) (k : Kind K T) where
   pub led_on : (b b' : Running C K T) (more : List (Event T)) → Leads c k b more b' → (start : C) (es : List (Event T)) → Led c k start es b → Led c k start (es ++ more) b'
   led_on b b' more leads start es led = record { first = led.first; not_set_up = led.not_set_up; made = led.made; leads = leads_on led.first b b' es more led.leads leads }
 
-  pub goes_on : (b b' : Running C K T) (e : Event T) → Calls c k b e b' → Goes_on c k b e b'
+  pub goes_on : (b b' : Running C K T) (e : Event T) → Calls c k b e b' → GoesOn c k b e b'
   goes_on b b' e call = led_on b b' (e ∷ []) (b', call, refl)
 
   -- The log of a history, as far as it has room.

@@ -27,8 +27,8 @@ module _ {C K T : Type 0} (c : Container C) (k : Kind K T) where
     pub leads : Leads first es b
 
   -- a history that led to b goes on: with this call it leads to b'
-  abbrev pub Goes_on : Running C K T → Event T → Running C K T → Type 0
-  Goes_on b e b' = (start : C) (es : List (Event T)) → Led start es b → Led start (es ++ e ∷ []) b'
+  abbrev pub GoesOn : Running C K T → Event T → Running C K T → Type 0
+  GoesOn b e b' = (start : C) (es : List (Event T)) → Led start es b → Led start (es ++ e ∷ []) b'
 
   -- One call gave and did what it should: by the tables of refusals, by what the container means, and by the container's own table.
   -- The items of an operation come back from their values.

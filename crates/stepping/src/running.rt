@@ -3,7 +3,7 @@ ghost use Rattle.std.specs.Prelude.{◌≡◌, min, [], map, length, take, drop,
 ghost use Rattle.vector.specs.Meaning.{unset};
 ghost use Rattle.stepping.specs.Log.{recorded};
 ghost use Rattle.stepping.specs.Bench.{call_of, Looks, Logs, Makes, BenchSetsUp, BenchBegins, BenchSteps, Calls};
-ghost use Rattle.stepping.specs.History.{Leads, Led, Goes_on, Closes, RunsOn};
+ghost use Rattle.stepping.specs.History.{Leads, Led, GoesOn, Closes, RunsOn};
 
 use crate::append::{append, append_step};
 use crate::convert::{op_of_values, step_of_items};
@@ -43,7 +43,7 @@ impl<C: Container, K: Kind> Running<C, K> {
 
     pub fn set_up(&mut self, capacity: usize, threads: usize) -> Result<(), Refusal>
         ensures does { BenchSetsUp C.Container self.old capacity threads result self.new }
-        ensures history { Goes_on C.Container K.Kind self.old (Event.SetUp capacity threads result) self.new }
+        ensures history { GoesOn C.Container K.Kind self.old (Event.SetUp capacity threads result) self.new }
     {
         self.container.set_up(capacity, threads)?;
         self.threads = threads;
@@ -52,7 +52,7 @@ impl<C: Container, K: Kind> Running<C, K> {
 
     pub fn begin(&mut self, thread: usize, op: Op<K::Item>) -> Result<u32, Refusal>
         ensures does { BenchBegins C.Container K.Kind self.old thread op result self.new }
-        ensures history { Goes_on C.Container K.Kind self.old (Event.Begin thread op result) self.new }
+        ensures history { GoesOn C.Container K.Kind self.old (Event.Begin thread op result) self.new }
     {
         let number = self.container.begin(thread, op_of_values::<K>(op))?;
         append(&mut self.log, Some(Record::Begin(number, thread, op)));
@@ -61,7 +61,7 @@ impl<C: Container, K: Kind> Running<C, K> {
 
     pub fn step(&mut self, thread: usize) -> Result<Stepped<K::Item>, Refusal>
         ensures does { BenchSteps C.Container K.Kind self.old thread result self.new }
-        ensures history { Goes_on C.Container K.Kind self.old (Event.Step thread result) self.new }
+        ensures history { GoesOn C.Container K.Kind self.old (Event.Step thread result) self.new }
     {
         let done = step_of_items::<K>(self.container.step(thread)?);
         append_step(&mut self.log, done);
@@ -70,7 +70,7 @@ impl<C: Container, K: Kind> Running<C, K> {
 
     pub fn look(&self, thread: usize) -> Result<Option<Open>, Refusal>
         ensures does { Looks self.now.threads self.now.log.items thread result }
-        ensures history { Goes_on C.Container K.Kind self.now (Event.Look thread result) self.now }
+        ensures history { GoesOn C.Container K.Kind self.now (Event.Look thread result) self.now }
     {
         if thread < 1 || thread > self.threads {
             return Err(Refusal::NoThread);
