@@ -1,13 +1,13 @@
 // The plans of the installed operations.
 ghost use Rattle.std.specs.Prelude.{◌≡◌, ◌≤◌};
-ghost use Rattle.descriptor_steps.specs.Shared.{position as position-of, pushed, emptied_by, size_after};
+ghost use Rattle.descriptor_steps.specs.Shared.{position as position_of, pushed, emptied_by, size_after};
 ghost use Rattle.descriptor_steps.specs.Steps.{plan_of};
 
 use crate::stage::Plan;
 
 impl Plan {
     pub(crate) fn position(self) -> u16
-        ensures { result ≡ position-of self }
+        ensures { result ≡ position_of self }
     {
         match self {
             Plan::Unplanned => 0,

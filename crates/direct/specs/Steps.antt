@@ -15,15 +15,15 @@ use Rattle.vector.proofs.Rows.{passes, row_set_same}
 use Rattle.direct.specs.Shows.{row, shown, own_of, whole}
 use Rattle.direct.specs.declared.Waiting.{Waiting}
 
-getD_row : (rs : List (Option Waiting)) (i : ℕ) → row (slice_index_or rs i None) ≡ slice_index_or (map row rs) i idle
-getD_row [] i = refl
-getD_row (o ∷ rs) zero = refl
-getD_row (o ∷ rs) (suc i) = getD_row rs i
+get_or_row : (rs : List (Option Waiting)) (i : ℕ) → row (slice_index_or rs i None) ≡ slice_index_or (map row rs) i idle
+get_or_row [] i = refl
+get_or_row (o ∷ rs) zero = refl
+get_or_row (o ∷ rs) (suc i) = get_or_row rs i
 
 -- the row of a thread means its operation
 own_means : (rs : List (Option Waiting)) (t : ℕ) → row (own_of rs t) ≡ row_of (map row rs) t
 own_means rs zero = refl
-own_means rs (suc i) = getD_row rs i
+own_means rs (suc i) = get_or_row rs i
 
 open_row : (o : Option Waiting) → is_open (row o) ≡ is_some o
 open_row None = refl
