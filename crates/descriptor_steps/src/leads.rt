@@ -26,7 +26,8 @@ fn lead_look(
     stage: Stage,
     found: Found,
 ) -> Moved
-    ensures { purpose stage ≡ looking → result ≡ leads (seen plans.now capacity found) (took found) number op stage }
+    requires { purpose stage ≡ looking }
+    ensures { result ≡ leads (seen plans.now capacity found) (took found) number op stage }
 {
     match stage {
         Stage::L1 => go_to(after_l1(capacity, op, number_in(found))),
@@ -41,24 +42,26 @@ fn lead_look(
             value,
         } => go_to(after_p1(current, position, value, cell_in(found))),
         Stage::L4 { plan, .. } => after_l4(number, plan, took_place(found)),
-        _ => go_to(Stage::L1),
+        _ => unreachable(),
     }
 }
 
 // H1 and H2: a push is carried out.
 fn lead_push(plans: &[Plan; 401], stage: Stage, found: Found) -> Moved
-    ensures { (capacity number : ℕ) (op : Operation ℕ) → purpose stage ≡ pushing_on → result ≡ leads (seen plans.now capacity found) (took found) number op stage }
+    requires { purpose stage ≡ pushing_on }
+    ensures { (capacity number : ℕ) (op : Operation ℕ) → result ≡ leads (seen plans.now capacity found) (took found) number op stage }
 {
     match stage {
         Stage::H1 { helped, then } => after_h1(helped, then, took_place(found)),
         Stage::H2 { helped, then } => go(helped_out(planned(plans, helped), then)),
-        _ => go_to(Stage::L1),
+        _ => unreachable(),
     }
 }
 
 // G1 to G7 and O1: a pop is carried out.
 fn lead_pop(plans: &[Plan; 401], number: u16, stage: Stage, found: Found) -> Moved
-    ensures { (capacity : ℕ) (op : Operation ℕ) → purpose stage ≡ popping_on → result ≡ leads (seen plans.now capacity found) (took found) number op stage }
+    requires { purpose stage ≡ popping_on }
+    ensures { (capacity : ℕ) (op : Operation ℕ) → result ≡ leads (seen plans.now capacity found) (took found) number op stage }
 {
     match stage {
         Stage::G1 { helped, then } => go_to(after_g1(helped, then, cell_in(found))),
@@ -91,13 +94,14 @@ fn lead_pop(plans: &[Plan; 401], number: u16, stage: Stage, found: Found) -> Mov
         } => after_g6(helped, popped, then),
         Stage::G7 { helped, then, .. } => go(helped_out(planned(plans, helped), then)),
         Stage::O1 => go(Next::End(Answer::Value(held_by(status_in(found))))),
-        _ => go_to(Stage::L1),
+        _ => unreachable(),
     }
 }
 
 // R1 to R3: a read.
 fn lead_read(number: u16, stage: Stage, found: Found) -> Moved
-    ensures { (plans : List Planned) (capacity : ℕ) (op : Operation ℕ) → purpose stage ≡ reading → result ≡ leads (seen plans capacity found) (took found) number op stage }
+    requires { purpose stage ≡ reading }
+    ensures { (plans : List Planned) (capacity : ℕ) (op : Operation ℕ) → result ≡ leads (seen plans capacity found) (took found) number op stage }
 {
     match stage {
         Stage::R1 { index } => after_r1(number, index, cell_in(found)),
@@ -113,13 +117,14 @@ fn lead_read(number: u16, stage: Stage, found: Found) -> Moved
             by,
             through,
         } => { after_r3(number, index, value, by, through, cell_in(found)) }
-        _ => go_to(Stage::L1),
+        _ => unreachable(),
     }
 }
 
 // W1 to W3: a write.
 fn lead_write(plans: &[Plan; 401], number: u16, stage: Stage, found: Found) -> Moved
-    ensures { (capacity : ℕ) (op : Operation ℕ) → purpose stage ≡ writing → result ≡ leads (seen plans.now capacity found) (took found) number op stage }
+    requires { purpose stage ≡ writing }
+    ensures { (capacity : ℕ) (op : Operation ℕ) → result ≡ leads (seen plans.now capacity found) (took found) number op stage }
 {
     match stage {
         Stage::W1 { index, value } => after_w1(number, index, value, cell_in(found)),
@@ -139,7 +144,7 @@ fn lead_write(plans: &[Plan; 401], number: u16, stage: Stage, found: Found) -> M
             after_w2(number, plan, index, value, seen, by, status_in(found))
         }
         Stage::W3 { index, value, .. } => after_w3(number, index, value, took_place(found)),
-        _ => go_to(Stage::L1),
+        _ => unreachable(),
     }
 }
 
