@@ -38,10 +38,9 @@ abbrev pub EndsWithin : ℕ → Type 0
 EndsWithin bound =
     (s : Shared) (rows : List Row) (given t : ℕ) → Invariant s rows given → Alone (map (meant s) rows) t → (0 < left s rows) × (left s rows ≤ bound)
 
--- While a thread is alone, it has a step left, and no more than 48.
+-- The bound is 48.
 abbrev pub EndsInTime : Type 0
-EndsInTime =
-    (s : Shared) (rows : List Row) (given t : ℕ) → Invariant s rows given → Alone (map (meant s) rows) t → (0 < left s rows) × (left s rows ≤ 48)
+EndsInTime = EndsWithin 48
 
 -- The whole of it.
 pub record Linearizes (bound : ℕ) : Type 0 where

@@ -1,5 +1,5 @@
 use Rattle.linearization.proofs.Linear.{linearizes}
 use Rattle.linearization.proofs.steps_alone.Goals as goal
 
-pub returns : goal.returns
-returns c = linearizes
+pub returns-clause-theorem : goal.returns-clause-theorem
+returns-clause-theorem c = linearizes
