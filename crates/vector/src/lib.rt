@@ -4,10 +4,12 @@
 mod container;
 mod refusals;
 mod scan;
+mod threads;
 
 pub use container::{Container, Over};
 pub use refusals::{may_begin, may_set_up, may_step};
 pub use scan::all_zero;
+pub use threads::{Task, Threads};
 
 // An operation on a vector of `V`.
 #[derive(Clone, Copy)]
