@@ -19,9 +19,9 @@ pub fn may_set_up(
 {
     if set > 0 {
         Err(Refusal::SetUpBefore)
-    } else if capacity < 1 || capacity > 64 {
+    } else if !(1..=64).contains(&capacity) {
         Err(Refusal::BadCapacity)
-    } else if threads < 1 || threads > 8 {
+    } else if !(1..=8).contains(&threads) {
         Err(Refusal::BadThreads)
     } else if words < needed {
         Err(Refusal::MemoryShort)
@@ -44,7 +44,7 @@ pub fn may_begin<V: Copy>(
 ) -> Result<(), Refusal>
     ensures { Judges (begin_rows threads thread busy numbers given capacity op) result }
 {
-    if thread < 1 || thread > threads {
+    if !(1..=threads).contains(&thread) {
         Err(Refusal::NoThread)
     } else if busy {
         Err(Refusal::OperationOpen)
@@ -61,7 +61,7 @@ pub fn may_begin<V: Copy>(
 pub fn may_step(threads: usize, thread: usize, busy: bool) -> Result<(), Refusal>
     ensures { Judges (step_rows threads thread busy) result }
 {
-    if thread < 1 || thread > threads {
+    if !(1..=threads).contains(&thread) {
         Err(Refusal::NoThread)
     } else if !busy {
         Err(Refusal::NothingOpen)

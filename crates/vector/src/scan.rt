@@ -4,17 +4,14 @@ ghost use Rattle.vector.specs.Calls.{all_zero};
 
 use memory::Memory;
 
-// Whether every word is 0.
+// Whether every word is 0. Tried as `all` over the locations: what that says of the words did not close.
 pub fn all_zero<M: Memory>(memory: &M) -> bool
     ensures { result ≡ all_zero (M.words memory.now) }
 {
-    for i in 0..memory.len() {
-        let Ok(word) = memory.load(i) else {
+    for at in 0..memory.len() {
+        let Ok(0) = memory.load(at) else {
             return false;
         };
-        if word != 0 {
-            return false;
-        }
     }
     true
 }
