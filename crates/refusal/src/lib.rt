@@ -1,46 +1,49 @@
 // Every refusal that the product has, with its number.
 #![tactic(auto)]
 
-ghost use Rattle.std.specs.Prelude.{◌≡◌};
+ghost use Rattle.std.specs.Prelude.{◌≡◌, Some, decimal};
 ghost use Rattle.refusal.specs.Numbers.{number_of_refusal};
 
+use std::error::Error;
+use std::fmt;
+
 // Why a call is refused.
-#[derive(Clone, Copy, Debug)]
+#[derive(Clone, Copy, PartialEq, Eq, Debug)]
 pub enum Refusal {
     // The script has more than 16,384 bytes.
-    ScriptTooLong,
+    ScriptTooLong = 40,
     // The script has no header line.
-    NoHeaderLine,
+    NoHeaderLine = 43,
     // The line is not of a form.
-    NotOfAForm,
+    NotOfAForm = 41,
     // The number item or the step count of the line is out of range.
-    OutOfRange,
+    OutOfRange = 42,
     // A coordinate of a point is out of range.
-    BadCoordinate,
+    BadCoordinate = 24,
     // A set-up was granted before.
-    SetUpBefore,
+    SetUpBefore = 15,
     // The capacity is not 1 to 64.
-    BadCapacity,
+    BadCapacity = 10,
     // The thread count is not 1 to 8.
-    BadThreads,
+    BadThreads = 11,
     // The memory has fewer words than are needed.
-    MemoryShort,
+    MemoryShort = 12,
     // Some word of the memory is not 0.
-    MemoryUsed,
+    MemoryUsed = 13,
     // The thread is not 1 to the thread count.
-    NoThread,
+    NoThread = 20,
     // Begin: the thread's operation is open.
-    OperationOpen,
+    OperationOpen = 21,
     // Begin: all numbers are given.
-    NumbersGone,
+    NumbersGone = 22,
     // Begin: the index of a read or a write is not below the capacity.
-    BadIndex,
+    BadIndex = 23,
     // Step: the thread has no open operation.
-    NothingOpen,
+    NothingOpen = 25,
     // The location is not below the memory's length.
-    NoSuchLocation,
+    NoSuchLocation = 30,
     // The listing is longer than the output.
-    ListingTooLong,
+    ListingTooLong = 44,
 }
 
 impl Refusal {
@@ -48,24 +51,18 @@ impl Refusal {
     pub fn number(self) -> u32
         ensures { result ≡ number_of_refusal self }
     {
-        match self {
-            Refusal::ScriptTooLong => 40,
-            Refusal::NoHeaderLine => 43,
-            Refusal::NotOfAForm => 41,
-            Refusal::OutOfRange => 42,
-            Refusal::BadCoordinate => 24,
-            Refusal::SetUpBefore => 15,
-            Refusal::BadCapacity => 10,
-            Refusal::BadThreads => 11,
-            Refusal::MemoryShort => 12,
-            Refusal::MemoryUsed => 13,
-            Refusal::NoThread => 20,
-            Refusal::OperationOpen => 21,
-            Refusal::NumbersGone => 22,
-            Refusal::BadIndex => 23,
-            Refusal::NothingOpen => 25,
-            Refusal::NoSuchLocation => 30,
-            Refusal::ListingTooLong => 44,
-        }
+        self as u32
     }
 }
+
+// As users see it: its number.
+impl fmt::Display for Refusal {
+    ghost output = { λ r. Some (decimal (number_of_refusal r)) };
+
+    fn fmt<W: fmt::Write>(&self, f: &mut fmt::Formatter<W>) -> fmt::Result {
+        let number = self.number();
+        write!(f, "{number}")
+    }
+}
+
+impl Error for Refusal {}
