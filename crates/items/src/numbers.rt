@@ -18,10 +18,10 @@ impl Kind for Numbers {
     ghost back = { Prim.search rules };
 
     fn to_value(x: i32) -> u32 {
-        (x as i64 + 2147483648) as u32
+        (i64::from(x) + 2147483648) as u32
     }
 
     fn to_item(v: u32) -> i32 {
-        (v as i64 - 2147483648) as i32
+        (i64::from(v) - 2147483648) as i32
     }
 }

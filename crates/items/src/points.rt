@@ -1,5 +1,6 @@
 // Points as a kind of item: ten bits for each coordinate.
-ghost use Rattle.std.specs.Prelude.{◌≡◌};
+ghost use Rattle.std.specs.Prelude.{◌≡◌, ◌%◌, IfOk, IfErr};
+ghost use Rattle.items.specs.Coordinates.{Coordinate, ten_bits, coordinate};
 ghost use Rattle.items.specs.Points.{point_value, value_point, MakesPoint};
 ghost use Rattle.items.specs.Turned;
 
@@ -7,18 +8,41 @@ use crate::Kind;
 use crate::point::Point;
 use refusal::Refusal;
 
+// The coordinate z, if it is in range.
+fn in_range(z: i64) -> Result<i16, Refusal>
+    ensures ok { IfOk result (λ c. (c ≡ z) × Coordinate z) }
+    ensures err { IfErr result (λ f. (Coordinate z → ⊥) × (f ≡ Refusal.BadCoordinate)) }
+{
+    match z {
+        -512..=511 => Ok(z as i16),
+        _ => Err(Refusal::BadCoordinate),
+    }
+}
+
+// The ten bits of a coordinate.
+fn to_bits(c: i16) -> u32
+    requires { Coordinate c }
+    ensures { result ≡ ten_bits c }
+{
+    (c + 512) as u32
+}
+
+// The coordinate of the ten lowest bits.
+fn from_bits(v: u32) -> i16
+    ensures { result ≡ coordinate (v % 1024) }
+{
+    (v % 1024) as i16 - 512
+}
+
 impl Point {
     // Refuses a coordinate out of range.
     pub fn new(x: i64, y: i64, z: i64) -> Result<Point, Refusal>
         ensures { MakesPoint x y z result }
     {
-        if x < -512 || x > 511 || y < -512 || y > 511 || z < -512 || z > 511 {
-            return Err(Refusal::BadCoordinate);
-        }
         Ok(Point {
-            x: x as i16,
-            y: y as i16,
-            z: z as i16,
+            x: in_range(x)?,
+            y: in_range(y)?,
+            z: in_range(z)?,
         })
     }
 
@@ -56,14 +80,14 @@ impl Kind for Points {
     ghost back = { λ p _. Turned.back p };
 
     fn to_value(p: Point) -> u32 {
-        ((p.x + 512) as u32) * 1048576 + ((p.y + 512) as u32) * 1024 + (p.z + 512) as u32
+        (to_bits(p.x) << 20) + (to_bits(p.y) << 10) + to_bits(p.z)
     }
 
     fn to_item(v: u32) -> Point {
         Point {
-            x: (v / 1048576 % 1024) as i16 - 512,
-            y: (v / 1024 % 1024) as i16 - 512,
-            z: (v % 1024) as i16 - 512,
+            x: from_bits(v >> 20),
+            y: from_bits(v >> 10),
+            z: from_bits(v),
         }
     }
 }
