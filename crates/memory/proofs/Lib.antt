@@ -1,4 +1,2 @@
 pub mod Placing
 pub mod Rows
-pub mod Shows
-pub mod Shutting

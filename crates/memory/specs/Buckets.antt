@@ -1,5 +1,5 @@
 -- Where the buckets of a bucketed memory lie, and which of them are open.
-use Rattle.std.specs.Prelude.{◌≡◌, ℕ, ◌+◌, ◌-◌, ◌*◌, ◌/◌, ◌^◌, ◌<◌, Bool, true, false, cond, List, [], ◌∷◌, length, Ok, Err, Result, slice_index, slice_index_or, slice_set}
+use Rattle.std.specs.Prelude.{◌≡◌, ℕ, ◌+◌, ◌-◌, ◌*◌, ◌/◌, ◌^◌, ◌<◌, Bool, true, false, List, [], ◌∷◌, length, count_by, Ok, Err, Result, slice_index, slice_index_or, slice_set}
 use Rattle.std.specs.Int.Count.{count_leading_zeros}
 use Rattle.refusal.specs.declared.Refusal.{Refusal}
 use Rattle.memory.specs.declared.Swapped.{Swapped}
@@ -41,5 +41,4 @@ ShutAreZero flags words = (at : ℕ) → at < length words → slice_index_or fl
 
 -- how many buckets are open
 abbrev pub count_open : List Bool → ℕ
-count_open [] = 0
-count_open (b ∷ flags) = cond b 1 0 + count_open flags
+count_open flags = count_by (λ is_open. is_open) flags

@@ -1,3 +1,4 @@
+pub mod Bucketed
 pub mod Buckets
 pub mod Flats
 pub mod Shown

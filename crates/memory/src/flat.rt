@@ -16,7 +16,7 @@ impl FlatMemory {
     fn zeroed(heap: Global, count: usize) -> Result<FlatMemory, AllocError>
         ensures { IfOk result (λ m. flat_words m ≡ replicate count 0) }
     {
-        let cells = Vec::from_elem(heap, 0u64, count)?;
+        let cells = vec![in heap; 0u64; count]?;
         Ok(FlatMemory { cells })
     }
 
@@ -43,21 +43,15 @@ impl Memory for FlatMemory {
     }
 
     fn load(&self, at: usize) -> Result<u64, Refusal> {
-        if at < self.cells.len() {
-            Ok(self.cells[at])
-        } else {
-            Err(Refusal::NoSuchLocation)
-        }
+        self.cells.get(at).copied().ok_or(Refusal::NoSuchLocation)
     }
 
     fn swap(&mut self, at: usize, old: u64, new: u64) -> Result<Swapped, Refusal> {
-        if at >= self.cells.len() {
-            return Err(Refusal::NoSuchLocation);
-        }
-        if self.cells[at] != old {
+        let cell = self.cells.get_mut(at).ok_or(Refusal::NoSuchLocation)?;
+        if *cell != old {
             return Ok(Swapped::No);
         }
-        self.cells[at] = new;
+        *cell = new;
         Ok(Swapped::Yes)
     }
 }

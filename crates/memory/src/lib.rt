@@ -7,7 +7,6 @@ ghost use Rattle.memory.specs.Words.{Loads, Swaps};
 use refusal::Refusal;
 
 mod bucket;
-mod bucket_words;
 mod bucketed;
 mod flat;
 mod places;

@@ -1,30 +1,15 @@
-use Rattle.std.proofs.Common.{get_or, sym, refl, ap, ◌∙◌, arith}
-use Rattle.memory.specs.declared.bucket.Bucket.{Bucket}
-use Rattle.memory.specs.Shown.{shown}
-use Rattle.memory.proofs.Placing.{in_six}
-use Rattle.memory.proofs.Rows.{all, long, size_there, get_there}
+use Rattle.std.proofs.Common.{arith}
+use Rattle.std.proofs.lemmas.Grind.{common_steps}
+use Rattle.memory.proofs.Rows.{long, beyond, inside, get_there}
 use Rattle.memory.proofs.bucketed.BucketedMemoryMemory.load.Goals as goal
 
-pub returns-then-at-ge-LEN : goal.returns-then-at-ge-LEN
-returns-then-at-ge-LEN c = (omega (arith, all _ c.args.self.now.ok), refl)
-
-pub index-requires : goal.index-requires
-index-requires c =
-    let below = in_six _ _ c.if-at-ge-LEN.false c.place-bucket.ensures.bucket in
-    omega (arith, c.args.self.now.buckets.ok.0, long _ c.args.self.now.ok)
-
-pub load-requires : goal.load-requires
-load-requires c =
-    let put = c.place-bucket.ensures in
-    let below = in_six _ _ c.if-at-ge-LEN.false put.bucket in
-    let size = ap (λ (b : Bucket). b.size) c.index.ensures ∙ size_there _ c.args.self.now.ok _ below _ in
-    omega (arith, size, put.placed.inside)
+pub returns-in_err-bucket : goal.returns-in_err-bucket
+returns-in_err-bucket c =
+    let ok = c.args.self.now.ok in
+    grind (arith, common_steps, c.in_err-bucket.ensures.value, long _ ok, beyond _ ok _ _ _ c.place-bucket.ensures.placed)
 
 pub returns : goal.returns
 returns c =
-    let put = c.place-bucket.ensures in
-    let below = in_six _ _ c.if-at-ge-LEN.false put.bucket in
-    let read = get_there _ c.args.self.now.ok _ below c.index.result.now _ _ put.placed in (
-      omega (arith, all _ c.args.self.now.ok),
-      c.load.ensures ∙ ap (λ (b : Bucket). get_or (shown b) c.place-bucket.result.1 0) c.index.ensures ∙ sym read,
-    )
+    let ok = c.args.self.now.ok in
+    let placed = c.place-bucket.ensures.placed in
+    grind (arith, common_steps, c.in_ok-bucket.ensures.value, long _ ok, inside _ ok _ _ _ placed, get_there _ ok _ _ _ placed c.in_ok-bucket.bucket.now)

@@ -1,34 +1,18 @@
-use Rattle.std.proofs.Common.{refl, ap, ◌∙◌, arith}
-use Rattle.memory.specs.declared.bucket.Bucket.{Bucket}
-use Rattle.memory.proofs.Placing.{in_six}
-use Rattle.memory.proofs.Rows.{all, long, size_there, sizes_set, swaps_there, opens_there}
+use Rattle.std.proofs.Common.{◌≡◌, ◌<◌, get_or, arith}
+use Rattle.std.proofs.lemmas.Grind.{common_steps}
+use Rattle.memory.proofs.Rows.{long, beyond, swaps_there}
 use Rattle.memory.proofs.bucketed.BucketedMemoryMemory.swap.Goals as goal
 
-pub returns-then-at-ge-LEN : goal.returns-then-at-ge-LEN
-returns-then-at-ge-LEN c = record { swaps = (omega (arith, all _ c.args.self.now.ok), refl, refl); opens = refl }
+pub returns-in_err-bucket-clause-swaps : goal.returns-in_err-bucket-clause-swaps
+returns-in_err-bucket-clause-swaps c =
+    let ok = c.args.self.now.ok in
+    grind (arith, common_steps, c.in_err-bucket.ensures.value, long _ ok, beyond _ ok _ _ _ c.place-bucket.ensures.placed)
 
-pub index_mut-requires : goal.index_mut-requires
-index_mut-requires c =
-    let below = in_six _ _ c.if-at-ge-LEN.false c.place-bucket.ensures.bucket in
-    omega (arith, c.args.self.now.buckets.ok.0, long _ c.args.self.now.ok)
-
-pub swap-requires : goal.swap-requires
-swap-requires c =
-    let put = c.place-bucket.ensures in
-    let below = in_six _ _ c.if-at-ge-LEN.false put.bucket in
-    let size = ap (λ (b : Bucket). b.size) c.index_mut.ensures.value ∙ size_there _ c.args.self.now.ok _ below _ in
-    omega (arith, size, put.placed.inside)
-
-pub invariant_of-self : goal.invariant_of-self
-invariant_of-self c =
-    let size = c.swap.ensures.size ∙ ap (λ (b : Bucket). b.size) c.index_mut.ensures.value in
-    record { ok = sizes_set _ _ _ _ size ∙ c.args.self.now.ok }
-
-pub returns : goal.returns
-returns c =
-    let put = c.place-bucket.ensures in
-    let below = in_six _ _ c.if-at-ge-LEN.false put.bucket in
-    record {
-      swaps = swaps_there _ c.args.self.now.ok _ below _ _ _ put.placed _ _ _ _ c.index_mut.ensures.value c.if-at-ge-LEN.false c.swap.ensures.swaps;
-      opens = opens_there _ _ _ _ _ _ _ _ _ put.bucket c.index_mut.ensures.value c.swap.ensures.swaps;
-    }
+pub returns-clause-swaps : goal.returns-clause-swaps
+returns-clause-swaps c =
+    let memory = c.args.self.now in
+    let b = c.place-bucket.result.0 in
+    let bucket = c.in_ok-bucket.bucket.now in
+    let below : b < 6 = grind (arith, common_steps, c.in_ok-bucket.ensures.value, long _ memory.ok) in
+    let found : bucket ≡ get_or memory.buckets.items b bucket = grind (arith, common_steps, c.in_ok-bucket.ensures.value) in
+    swaps_there _ memory.ok _ _ _ c.place-bucket.ensures.placed bucket below _ _ _ _ found c.swap.ensures.swaps
