@@ -1,23 +1,11 @@
 // Points as a kind of item: ten bits for each coordinate.
-ghost use Rattle.std.specs.Prelude.{◌≡◌, ◌%◌, IfOk, IfErr};
+ghost use Rattle.std.specs.Prelude.{◌≡◌, ◌%◌};
 ghost use Rattle.items.specs.Coordinates.{Coordinate, ten_bits, coordinate};
-ghost use Rattle.items.specs.Points.{point_value, value_point, MakesPoint};
+ghost use Rattle.items.specs.Points.{point_value, value_point};
 ghost use Rattle.items.specs.Turned;
 
 use crate::Kind;
 use crate::point::Point;
-use refusal::Refusal;
-
-// The coordinate z, if it is in range.
-fn in_range(z: i64) -> Result<i16, Refusal>
-    ensures ok { IfOk result (λ c. (c ≡ z) × Coordinate z) }
-    ensures err { IfErr result (λ f. (Coordinate z → ⊥) × (f ≡ Refusal.BadCoordinate)) }
-{
-    match z {
-        -512..=511 => Ok(z as i16),
-        _ => Err(Refusal::BadCoordinate),
-    }
-}
 
 // The ten bits of a coordinate.
 fn to_bits(c: i16) -> u32
@@ -32,37 +20,6 @@ fn from_bits(v: u32) -> i16
     ensures { result ≡ coordinate (v % 1024) }
 {
     (v % 1024) as i16 - 512
-}
-
-impl Point {
-    // Refuses a coordinate out of range.
-    pub fn new(x: i64, y: i64, z: i64) -> Result<Point, Refusal>
-        ensures { MakesPoint x y z result }
-    {
-        Ok(Point {
-            x: in_range(x)?,
-            y: in_range(y)?,
-            z: in_range(z)?,
-        })
-    }
-
-    pub fn x(&self) -> i16
-        ensures { result ≡ self.now.x }
-    {
-        self.x
-    }
-
-    pub fn y(&self) -> i16
-        ensures { result ≡ self.now.y }
-    {
-        self.y
-    }
-
-    pub fn z(&self) -> i16
-        ensures { result ≡ self.now.z }
-    {
-        self.z
-    }
 }
 
 pub struct Points;
