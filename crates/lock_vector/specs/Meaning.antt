@@ -1,20 +1,19 @@
--- What the table and the words mean, and the invariant: what holds of them between any two calls.
-use Rattle.std.specs.Prelude.{◌≡◌, ℕ, suc, ◌+◌, ◌<◌, ◌≤◌, min, Bool, true, false, ◌≢◌, ◌⊎◌, List, [], ◌∷◌, map, length, get_or, take, drop, slice_index, slice_index_or}
+-- What the threads and the words mean, and the invariant: what holds of them between any two calls.
+use Rattle.std.specs.Prelude.{◌≡◌, ℕ, suc, ◌<◌, ◌≤◌, min, Bool, true, false, ◌≢◌, ◌⊎◌, List, map, length, get_or, take, drop, Some, None, sum_by, Option, slice_index}
 use Rattle.vector.specs.declared.Op.{Op}
 use Rattle.vector.specs.declared.Op.TheVariants.{Push, Pop, Read, Write, Size}
 use Rattle.vector.specs.declared.Answer.{Answer}
 use Rattle.vector.specs.declared.Answer.TheVariants.{Position, Value}
-use Rattle.vector.specs.Meaning.{Shown, idle, waiting, served}
-use Rattle.vector.specs.Meaning as meaning
+use Rattle.vector.specs.declared.threads.Task.{Task}
+use Rattle.vector.specs.declared.threads.Threads.{Threads}
+use Rattle.vector.specs.Meaning.{Row, Shown, idle, waiting, served}
+use Rattle.vector.specs.Plain.{Small}
+use Rattle.vector.specs.Threads.{task_of, rows_of}
 use Rattle.lock_vector.specs.declared.stages.Loading.TheVariants.{K2, K3}
 use Rattle.lock_vector.specs.declared.stages.Swapping.TheVariants.{K1, K4, K5, K6}
 use Rattle.lock_vector.specs.declared.stages.Stage.{Stage}
 use Rattle.lock_vector.specs.declared.stages.Stage.TheVariants.{Load, Swap}
-use Rattle.lock_vector.specs.declared.stages.Row.{Row}
-use Rattle.lock_vector.specs.declared.stages.Row.TheVariants.{Idle, Busy}
-use Rattle.lock_vector.specs.declared.table.Table.{Table}
 use Rattle.lock_vector.specs.Stages.{cell, plain, value_of}
-use Rattle.vector.specs.Plain.{Small}
 use Rattle.lock_vector.specs.Calls.{needed}
 
 -- THE MEANING. The values of all cells
@@ -26,7 +25,7 @@ abbrev pub items : ℕ → List ℕ → List ℕ
 items capacity words = take (min (slice_index words 1) capacity) (values words)
 
 -- an operation was served where only the lock is left to free
-abbrev pub meant_at : Stage → Op ℕ → ℕ → meaning.Row
+abbrev pub meant_at : Stage → Op ℕ → ℕ → Row
 meant_at (Load l) op n = waiting op n
 meant_at (Swap K1) op n = waiting op n
 meant_at (Swap (K4 i seen a)) op n = waiting op n
@@ -34,9 +33,9 @@ meant_at (Swap (K5 from to answer)) op n = waiting op n
 meant_at (Swap (K6 answer)) op n = served op n answer
 
 -- what a row means
-abbrev pub meant : Row → meaning.Row
-meant Idle = idle
-meant (Busy o) = meant_at o.stage o.op o.number
+abbrev pub meant : Option (Task Stage) → Row
+meant None = idle
+meant (Some o) = meant_at o.stage o.op o.number
 
 -- the steps that a stage has left once the lock is its own
 abbrev pub rank_at : Stage → ℕ
@@ -47,25 +46,16 @@ rank_at (Swap (K4 i seen a)) = 3
 rank_at (Swap (K5 from to answer)) = 2
 rank_at (Swap (K6 answer)) = 1
 
--- an idle row has none left
-abbrev pub rank : Row → ℕ
-rank Idle = 0
-rank (Busy o) = rank_at o.stage
-
--- the steps left of all rows
-abbrev pub ranks : List Row → ℕ
-ranks [] = 0
-ranks (row ∷ rows) = rank row + ranks rows
-
--- the rows of the threads that there are
-abbrev pub threads_of : Table → List Row
-threads_of T = take T.threads T.rows
+-- a thread with nothing open has none left
+abbrev pub rank : Option (Task Stage) → ℕ
+rank None = 0
+rank (Some o) = rank_at o.stage
 
 -- what a vector under a lock shows: bound 48, since eight rows have at most six steps each, and 400 numbers
-abbrev pub shown : Table → List ℕ → Shown
+abbrev pub shown : Threads Stage → List ℕ → Shown
 shown T words = record {
-  meaning = record { capacity = T.capacity; items = items T.capacity words; rows = map meant (threads_of T); given = T.given };
-  left = ranks (threads_of T);
+  meaning = record { capacity = T.capacity; items = items T.capacity words; rows = map meant (rows_of T); given = T.given };
+  left = sum_by rank (rows_of T);
   make = record { bound = 48; numbers = 400; needs = needed };
   words = words;
 }
@@ -78,10 +68,10 @@ inside_at (Swap (K4 i seen a)) = true
 inside_at (Swap (K5 from to answer)) = true
 inside_at (Swap (K6 answer)) = true
 
--- an idle row is not inside
-abbrev pub inside : Row → Bool
-inside Idle = false
-inside (Busy o) = inside_at o.stage
+-- a thread with nothing open is not inside
+abbrev pub inside : Option (Task Stage) → Bool
+inside None = false
+inside (Some o) = inside_at o.stage
 
 -- K3 goes for the cell at i while the length is n: for a push the first free one, for a pop the last value's
 abbrev pub Aims : ℕ → ℕ → ℕ → Op ℕ → Type 0
@@ -117,14 +107,14 @@ Seen capacity words (Swap (K5 from to answer)) op = (slice_index words 1 ≡ fro
 Seen capacity words (Swap (K6 answer)) op = Unit {0}
 
 -- a row has the lock: the lock's word is its number
-abbrev pub Inside : ℕ → List ℕ → Row → Type 0
-Inside capacity words Idle = ⊥
-Inside capacity words (Busy o) = (slice_index words 0 ≡ o.number) × Seen capacity words o.stage o.op
+abbrev pub Inside : ℕ → List ℕ → Option (Task Stage) → Type 0
+Inside capacity words None = ⊥
+Inside capacity words (Some o) = (slice_index words 0 ≡ o.number) × Seen capacity words o.stage o.op
 
--- the lock is free and no row is inside; or one row has it, and no other is inside (rows by their place, from 0)
-pub data Lock (capacity threads : ℕ) (words : List ℕ) (rows : List Row) : Type 0 where
-  free : get_or words 0 0 ≡ 0 → ((j : ℕ) → inside (slice_index_or rows j Idle) ≡ false) → Lock capacity threads words rows
-  held : (i : ℕ) → i < threads → Inside capacity words (slice_index_or rows i Idle) → ((j : ℕ) → j ≢ i → inside (slice_index_or rows j Idle) ≡ false) → Lock capacity threads words rows
+-- the lock is free and no thread is inside; or one thread has it, and no other is inside
+pub data Lock (capacity threads : ℕ) (words : List ℕ) (rows : List (Option (Task Stage))) : Type 0 where
+  free : get_or words 0 0 ≡ 0 → ((u : ℕ) → inside (task_of rows u) ≡ false) → Lock capacity threads words rows
+  held : (u : ℕ) → u ≤ threads → Inside capacity words (task_of rows u) → ((v : ℕ) → v ≢ u → inside (task_of rows v) ≡ false) → Lock capacity threads words rows
 
 -- the memory has room, the length is within the capacity, and the cells below it are plain
 pub record WordsFit (capacity : ℕ) (words : List ℕ) : Type 0 where
@@ -133,26 +123,26 @@ pub record WordsFit (capacity : ℕ) (words : List ℕ) : Type 0 where
   pub plains : (i : ℕ) → i < slice_index words 1 → slice_index words (cell i) ≡ plain (value_of (slice_index words (cell i)))
 
 -- an open operation has a number that was given, and its value fits
-abbrev pub Known : ℕ → Row → Type 0
-Known given Idle = Unit {0}
-Known given (Busy o) = (1 ≤ o.number) × (o.number ≤ given) × Small o.op
+abbrev pub Known : ℕ → Option (Task Stage) → Type 0
+Known given None = Unit {0}
+Known given (Some o) = (1 ≤ o.number) × (o.number ≤ given) × Small o.op
 
 -- a vector that is set up
-pub record Running (T : Table) (words : List ℕ) : Type 0 where
+pub record Running (T : Threads Stage) (words : List ℕ) : Type 0 where
   pub some : 1 ≤ T.capacity
-  pub few : T.threads ≤ 8
+  pub few : T.count ≤ 8
   pub eight : length T.rows ≡ 8
   pub fit : WordsFit T.capacity words
-  pub known : (j : ℕ) → Known T.given (slice_index_or T.rows j Idle)
-  pub lock : Lock T.capacity T.threads words T.rows
+  pub known : (u : ℕ) → Known T.given (task_of T.rows u)
+  pub lock : Lock T.capacity T.count words T.rows
 
 -- a vector before set-up: of its rows, which set-up makes idle, and of its words nothing is asked
-pub record Bare (T : Table) : Type 0 where
-  pub none : T.threads ≡ 0
+pub record Bare (T : Threads Stage) : Type 0 where
+  pub none : T.count ≡ 0
   pub bare : T.capacity ≡ 0
   pub ungiven : T.given ≡ 0
   pub eight : length T.rows ≡ 8
 
 -- it holds together
-abbrev pub Sound : Table → List ℕ → Type 0
+abbrev pub Sound : Threads Stage → List ℕ → Type 0
 Sound T words = Bare T ⊎ Running T words

@@ -4,15 +4,17 @@ use Rattle.vector.specs.declared.Op.TheVariants.{Push, Size}
 use Rattle.vector.specs.declared.Answer.{Answer}
 use Rattle.vector.specs.declared.Answer.TheVariants.{Position, Length}
 use Rattle.vector.specs.declared.Stepped.{Stepped}
-use Rattle.lock_vector.specs.declared.table.Table.{Table}
-use Rattle.lock_vector.specs.Calls.{moved_row, stored_row, row_at, with_row, prepared, admitted}
+use Rattle.vector.specs.declared.threads.Threads.{Threads}
+use Rattle.vector.specs.Threads.{idle_threads, task_of, with_row}
+use Rattle.lock_vector.specs.declared.stages.Stage.{Stage}
+use Rattle.lock_vector.specs.Calls.{moved_row, stored_row, admitted}
 
 -- what the steps of these threads tell, in turn
-abbrev pub run : List ℕ → Table → List ℕ → List (Stepped ℕ)
+abbrev pub run : List ℕ → Threads Stage → List ℕ → List (Stepped ℕ)
 run [] T words = []
 run (t ∷ ts) T words =
-    (moved_row T.capacity words (row_at T t)).stepped
-    ∷ run ts (with_row T t (moved_row T.capacity words (row_at T t)).row) (stored_row words (row_at T t))
+    (moved_row T.capacity words (task_of T.rows t)).stepped
+    ∷ run ts (with_row T t (moved_row T.capacity words (task_of T.rows t)).row) (stored_row words (task_of T.rows t))
 
 -- a step tells of no effect and no end
 abbrev pub nothing : Stepped ℕ
@@ -29,11 +31,11 @@ end_of n a = record { effect = None; end = Some (record { number = n; answer = a
 -- a push alone on a fresh vector takes six steps: the effect at step k, and the answer position 0 at the sixth
 abbrev pub FreshPush : ℕ → Type 0
 FreshPush k =
-    run (replicate 6 1) (admitted (prepared 2 1) 1 (Push 17)) (replicate 403 0)
+    run (replicate 6 1) (admitted (idle_threads 2 1) 1 (Push 17)) (replicate 403 0)
     ≡ replicate (k - 1) nothing ++ effect_of 1 ∷ end_of 1 (Position 0) ∷ []
 
 -- thread 2 asks for the size while thread 1 has the lock for a push: it waits, and then answers 1
 abbrev pub WaitingSize : Type 0
 WaitingSize =
-    run (1 ∷ 2 ∷ 1 ∷ 1 ∷ 1 ∷ 1 ∷ 2 ∷ 1 ∷ 2 ∷ 2 ∷ 2 ∷ []) (admitted (admitted (prepared 2 2) 1 (Push 17)) 2 Size) (replicate 403 0)
+    run (1 ∷ 2 ∷ 1 ∷ 1 ∷ 1 ∷ 1 ∷ 2 ∷ 1 ∷ 2 ∷ 2 ∷ 2 ∷ []) (admitted (admitted (idle_threads 2 2) 1 (Push 17)) 2 Size) (replicate 403 0)
     ≡ nothing ∷ nothing ∷ nothing ∷ nothing ∷ nothing ∷ effect_of 1 ∷ nothing ∷ end_of 1 (Position 0) ∷ nothing ∷ effect_of 2 ∷ end_of 2 (Length 1) ∷ []

@@ -6,14 +6,13 @@ use Rattle.vector.specs.declared.Op.{Op}
 use Rattle.vector.specs.declared.Op.TheVariants.{Push, Pop, Read, Write, Size}
 use Rattle.vector.specs.declared.Answer.{Answer}
 use Rattle.vector.specs.declared.Answer.TheVariants.{Position, Value, Full, Empty, Out, Done, Length}
+use Rattle.vector.specs.declared.threads.Task.{Task}
 use Rattle.lock_vector.specs.declared.stages.Loading.{Loading}
 use Rattle.lock_vector.specs.declared.stages.Loading.TheVariants.{K2, K3}
 use Rattle.lock_vector.specs.declared.stages.Swapping.{Swapping}
 use Rattle.lock_vector.specs.declared.stages.Swapping.TheVariants.{K1, K4, K5, K6}
 use Rattle.lock_vector.specs.declared.stages.Stage.{Stage}
 use Rattle.lock_vector.specs.declared.stages.Stage.TheVariants.{Load, Swap}
-use Rattle.lock_vector.specs.declared.stages.Task.{Task}
-use Rattle.lock_vector.specs.declared.stages.Row.TheVariants.{Idle, Busy}
 use Rattle.lock_vector.specs.declared.stages.Moved.{Moved}
 
 -- THE WORDS. Location 0 is the lock (0 is free), location 1 the length, and here is cell i
@@ -55,20 +54,20 @@ swap_new number (K5 from to answer) = to
 swap_new number (K6 answer) = 0
 
 -- WHAT FOLLOWS, for the open operation o. It goes on to a stage, and the step tells nothing
-abbrev pub quiet : Task → Stage → Moved
-quiet o next = record { row = Busy (record { number = o.number; op = o.op; stage = next }); stepped = record { effect = None; end = None } }
+abbrev pub quiet : Task Stage → Stage → Moved
+quiet o next = record { row = Some (record { number = o.number; op = o.op; stage = next }); stepped = record { effect = None; end = None } }
 
 -- it takes effect with an answer, and has the lock left to free
-abbrev pub effected : Task → Answer ℕ → Moved
+abbrev pub effected : Task Stage → Answer ℕ → Moved
 effected o a =
-    record { row = Busy (record { number = o.number; op = o.op; stage = Swap (K6 a) }); stepped = record { effect = Some o.number; end = None } }
+    record { row = Some (record { number = o.number; op = o.op; stage = Swap (K6 a) }); stepped = record { effect = Some o.number; end = None } }
 
 -- it ends with the answer kept
-abbrev pub finished : Task → Answer ℕ → Moved
-finished o a = record { row = Idle; stepped = record { effect = None; end = Some (record { number = o.number; answer = a }) } }
+abbrev pub finished : Task Stage → Answer ℕ → Moved
+finished o a = record { row = None; stepped = record { effect = None; end = Some (record { number = o.number; answer = a }) } }
 
 -- K2 has loaded length n: full, empty, out and size take effect; else the cell concerned is next
-abbrev pub chosen : ℕ → Task → ℕ → Op ℕ → Moved
+abbrev pub chosen : ℕ → Task Stage → ℕ → Op ℕ → Moved
 chosen capacity o n (Push a) = cond (nat_lt n capacity) (quiet o (Load (K3 n))) (effected o Full)
 chosen capacity o n Pop = cond (n == 0) (effected o Empty) (quiet o (Load (K3 (n - 1))))
 chosen capacity o n (Read i) = cond (nat_lt i n) (quiet o (Load (K3 i))) (effected o Out)
@@ -76,7 +75,7 @@ chosen capacity o n (Write i a) = cond (nat_lt i n) (quiet o (Load (K3 i))) (eff
 chosen capacity o n Size = effected o (Length n)
 
 -- K3 has loaded the word w of cell i: a read takes effect; size never comes here
-abbrev pub found : Task → ℕ → ℕ → Op ℕ → Moved
+abbrev pub found : Task Stage → ℕ → ℕ → Op ℕ → Moved
 found o i w (Push a) = quiet o (Swap (K4 i w a))
 found o i w Pop = quiet o (Swap (K5 (i + 1) i (Value (value_of w))))
 found o i w (Read j) = effected o (Value (value_of w))
@@ -84,7 +83,7 @@ found o i w (Write j a) = quiet o (Swap (K4 i w a))
 found o i w Size = effected o (Value (value_of w))
 
 -- K4 has swapped cell i: a push goes on to the length, a write takes effect; no other comes here
-abbrev pub put : Task → ℕ → Op ℕ → Moved
+abbrev pub put : Task Stage → ℕ → Op ℕ → Moved
 put o i (Push a) = quiet o (Swap (K5 i (i + 1) (Position i)))
 put o i Pop = effected o Done
 put o i (Read j) = effected o Done
@@ -92,12 +91,12 @@ put o i (Write j a) = effected o Done
 put o i Size = effected o Done
 
 -- after a load that found w; a length above the capacity, which is never there, would count as the capacity
-abbrev pub loaded : ℕ → Task → Loading → ℕ → Moved
+abbrev pub loaded : ℕ → Task Stage → Loading → ℕ → Moved
 loaded capacity o K2 w = chosen capacity o (min w capacity) o.op
 loaded capacity o (K3 i) w = found o i w o.op
 
 -- after a swap that was answered: K1 is done again until yes, and the others, which have the lock, are always answered yes
-abbrev pub swapped : Task → Swapping → Swapped → Moved
+abbrev pub swapped : Task Stage → Swapping → Swapped → Moved
 swapped o K1 Yes = quiet o (Load K2)
 swapped o K1 No = quiet o (Swap K1)
 swapped o (K4 i seen a) answered = put o i o.op

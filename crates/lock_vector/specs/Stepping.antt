@@ -1,5 +1,5 @@
 -- Each stage of a turn in its place: it keeps a running vector running, and is a step of its meaning.
-use Rattle.std.specs.Prelude.{◌≡◌, ℕ, suc, ◌+◌, ◌-◌, ◌^◌, ◌<◌, ◌≤◌, true, ◌≢◌, List, length, get_or, set, ◌==◌, nat_lt, slice_index, slice_index_or, slice_set, refl}
+use Rattle.std.specs.Prelude.{◌≡◌, ℕ, suc, ◌+◌, ◌-◌, ◌^◌, ◌<◌, ◌≤◌, true, ◌≢◌, List, length, get_or, set, Some, None, Option, ◌==◌, nat_lt, slice_index, slice_set, refl}
 use Rattle.std.proofs.Common.{sym, ap, subst, ◌∙◌, arith}
 use Rattle.std.proofs.lemmas.List.{set-get_or, get_or-set_same, get_or-set_other}
 use Rattle.std.proofs.lemmas.Bool.{cond_both, ltb-true, ltb-false, eqb-true, eqb-false, eq-eqb, ne_eqb}
@@ -7,39 +7,39 @@ use Rattle.vector.specs.declared.Op.{Op}
 use Rattle.vector.specs.declared.Op.TheVariants.{Push, Pop, Read, Write, Size}
 use Rattle.vector.specs.declared.Answer.{Answer}
 use Rattle.vector.specs.declared.Answer.TheVariants.{Position, Value, Full, Empty, Out, Done, Length}
+use Rattle.vector.specs.declared.threads.Task.{Task}
+use Rattle.vector.specs.declared.threads.Threads.{Threads}
 use Rattle.vector.specs.Plain.{answer}
 use Rattle.vector.specs.Meaning.{is_open}
+use Rattle.vector.specs.Threads.{task_of}
+use Rattle.vector.proofs.Tasks.{task_of_place, means}
 use Rattle.lock_vector.specs.declared.stages.Loading.TheVariants.{K2, K3}
 use Rattle.lock_vector.specs.declared.stages.Swapping.TheVariants.{K1, K4, K5, K6}
 use Rattle.lock_vector.specs.declared.stages.Stage.{Stage}
 use Rattle.lock_vector.specs.declared.stages.Stage.TheVariants.{Load, Swap}
-use Rattle.lock_vector.specs.declared.stages.Row.{Row}
-use Rattle.lock_vector.specs.declared.stages.Row.TheVariants.{Idle, Busy}
 use Rattle.lock_vector.specs.declared.stages.Moved.{Moved}
-use Rattle.lock_vector.specs.declared.table.Table.{Table}
 use Rattle.lock_vector.specs.Stages.{cell, plain, value_of, chosen}
 use Rattle.lock_vector.specs.Calls.{moved, stored, location}
-use Rattle.lock_vector.specs.Meaning.{items, meant, meant_at, shown, inside, inside_at, Seen, Inside, Lock, free, held, WordsFit, Known}
+use Rattle.lock_vector.specs.Meaning.{items, meant, shown, inside, inside_at, Seen, Inside, Lock, free, held, WordsFit, Known}
 use Rattle.lock_vector.specs.Items.{as_is, items_len, push_full, pop_empty, read_out, write_out, read_in, write_in, push_in, pop_in, items_low, items_past}
 use Rattle.lock_vector.specs.Fits.{in_room, fit_lock, fit_past, fit_write, fit_grow, fit_shrink}
-use Rattle.lock_vector.specs.Places.{means}
+use Rattle.lock_vector.specs.Places.{open_meant}
 use Rattle.lock_vector.specs.Turns.{no_way, task, Turn, Leads, known, mine, on, takes, ends}
 
--- a row inside has a number, and the lock is not free
-pub inside_busy : (capacity given : ℕ) (W : List ℕ) (row : Row) → Inside capacity W row → Known given row → (1 ≤ slice_index W 0) × (inside row ≡ true) × (is_open (meant row) ≡ true)
-inside_busy capacity given W Idle h k = absurd h
-inside_busy capacity given W (Busy o) h k =
+-- who is inside has a number, and the lock is not free
+pub inside_open : (capacity given : ℕ) (W : List ℕ) (row : Option (Task Stage)) → Inside capacity W row → Known given row → (1 ≤ slice_index W 0) × (inside row ≡ true) × (is_open (meant row) ≡ true)
+inside_open capacity given W None h k = absurd h
+inside_open capacity given W (Some o) h k =
     let e = h.0 in
     let l = k.0 in
-    let both = go o.stage h.1 in
-    (omega arith, both.0, both.1)
+    (omega arith, go o.stage h.1, open_meant (Some o))
   where
-    go : (s : Stage) → Seen capacity W s o.op → (inside_at s ≡ true) × (is_open (meant_at s o.op o.number) ≡ true)
-    go (Load l) x = (refl, refl)
+    go : (s : Stage) → Seen capacity W s o.op → inside_at s ≡ true
+    go (Load l) x = refl
     go (Swap K1) x = absurd x
-    go (Swap (K4 i w v)) x = (refl, refl)
-    go (Swap (K5 m m' a)) x = (refl, refl)
-    go (Swap (K6 a)) x = (refl, refl)
+    go (Swap (K4 i w v)) x = refl
+    go (Swap (K5 m m' a)) x = refl
+    go (Swap (K6 a)) x = refl
 
 -- a cell is neither the lock nor the length
 apart : (i : ℕ) → 0 ≢ cell i
@@ -48,7 +48,7 @@ apart i e = omega arith
 apart_1 : (i : ℕ) → 1 ≢ cell i
 apart_1 i e = omega arith
 
-module _ (T : Table) (W : List ℕ) (t number : ℕ) where
+module _ (T : Threads Stage) (W : List ℕ) (t number : ℕ) where
   abbrev n : ℕ
   n = slice_index W 1
 
@@ -67,25 +67,24 @@ module _ (T : Table) (W : List ℕ) (t number : ℕ) where
       fit : WordsFit c W
       fit = turn.running.fit
 
-      go : Lock c T.threads W T.rows → Goal op (Swap K1)
+      go : Lock c T.count W T.rows → Goal op (Swap K1)
       go (free z out) =
           rw (eq-eqb (slice_index W 0) 0 z)
           (on turn (Load K2) (slice_set W 0 number) refl refl (omega arith) (items_low c W fit 0 number (omega arith) (omega arith)) (fit_lock c W fit number)
-          (get_or-set_same W 0 number 0 (in_room c W fit 0 (omega arith)), tt) (λ j _. out j))
-      go (held j l h out) =
+          (get_or-set_same W 0 number 0 (in_room c W fit 0 (omega arith)), tt) (λ u _. out u))
+      go (held u l h out) =
           let run = turn.running in
           let at = turn.at in
-          let b = inside_busy c T.given W (slice_index_or T.rows j Idle) h (run.known j) in
-          let same : set T.rows (t - 1) (Busy (task number op (Swap K1))) ≡ T.rows = ap (set T.rows (t - 1)) (sym at) ∙ set-get_or T.rows (t - 1) Idle in
-          let other : (suc j) ≢ t = λ e. let q : t - 1 ≡ j = omega arith in no_way (sym b.1 ∙ ap (λ i. inside (slice_index_or T.rows i Idle)) (sym q) ∙ ap inside at) in
-          let p : suc j - 1 ≡ j = omega arith in
-          let few : T.threads ≤ length T.rows = omega (arith, run.few, run.eight) in
-          let m = means T.threads T.rows few (suc j) (omega arith) (omega arith) in
+          let b = inside_open c T.given W (task_of T.rows u) h (run.known u) in
+          let same : set T.rows (t - 1) (Some (task number op (Swap K1))) ≡ T.rows = ap (set T.rows (t - 1)) (sym at ∙ task_of_place T.rows t turn.low) ∙ set-get_or T.rows (t - 1) None in
+          let other : u ≢ t = λ e. no_way (sym b.1 ∙ ap (λ v. inside (task_of T.rows v)) e ∙ ap inside at) in
+          let few : T.count ≤ length T.rows = omega (arith, run.few, run.eight) in
+          let m = means meant refl T.count T.rows few u l in
           rw (ne_eqb (slice_index W 0) 0 (λ z. omega arith), same)
           (record {
             runs = run;
             moves = ((shown T W).meaning, refl, refl);
-            falls = λ alone. no_way (sym b.2 ∙ ap (λ i. is_open (meant (slice_index_or T.rows i Idle))) (sym p) ∙ ap is_open (sym m ∙ alone.1 (suc j) other));
+            falls = λ alone. no_way (sym b.2 ∙ ap is_open (sym m ∙ alone.1 u other));
           })
 
   abbrev P : Moved → Type 0

@@ -2,48 +2,44 @@
 #![tactic(auto)]
 
 ghost use Rattle.std.specs.Prelude.{◌≡◌, ◌≤◌, length};
-ghost use Rattle.lock_vector.specs.Calls.{unprepared, Acts, Prepares, Admits, Advances};
+ghost use Rattle.vector.specs.Threads.{idle_threads};
+ghost use Rattle.lock_vector.specs.Calls.{Acts, Prepares, Admits, Advances};
 ghost use Rattle.lock_vector.specs.Meaning.{Sound, shown};
 ghost use Rattle.lock_vector.specs.Played.{FreshPush, WaitingSize};
 ghost use Rattle.lock_vector.specs.Keeps;
 
-use crate::stages::{
-    FIRST_CELL, Moved, Row, Stage, Swapping, Task, load_location, new_word, old_word, on_load,
-    on_swap, swap_location,
-};
-use crate::table::Table;
+use crate::stages::{FIRST_CELL, Moved, Stage, Swapping, on_load, on_swap};
 use memory::Memory;
 use refusal::Refusal;
-use vector::{Container, Op, Over, Stepped, all_zero, may_begin, may_set_up, may_step};
+use vector::{Container, Op, Over, Stepped, Task, Threads, all_zero};
 
 mod stages;
-mod table;
 
 // How many numbers it gives.
-const NUMBERS: u32 = 400;
+const NUMBERS: u16 = 400;
 
-// Its words are in the memory, all else is in the table. The facts on the table make its rows safe to index.
+// Its words are in the memory, all else is in what it keeps of its threads. The law `fresh` rests on the two facts.
 #[derive(Drop)]
 pub struct LockVector<M: Memory> {
     memory: M,
-    table: Table,
-    ghost few: { table.threads ≤ 8 },
-    ghost eight: { length table.rows ≡ 8 },
+    threads: Threads<Stage>,
+    ghost few: { threads.count ≤ 8 },
+    ghost eight: { length threads.rows ≡ 8 },
 }
 
 // One stage of an open operation, with its one access of the memory.
-fn act<M: Memory>(memory: &mut M, capacity: u32, task: Task) -> Result<Moved, Refusal>
+fn act<M: Memory>(memory: &mut M, capacity: u16, task: Task<Stage>) -> Result<Moved, Refusal>
     ensures { Acts capacity (M.words memory.old) task result (M.words memory.new) }
 {
     match task.stage {
         Stage::Load(loading) => {
-            let word = memory.load(load_location(loading))?;
+            let word = memory.load(loading.location())?;
             Ok(on_load(capacity, task, loading, word))
         }
         Stage::Swap(swapping) => {
-            let old = old_word(task.number, swapping);
-            let new = new_word(task.number, swapping);
-            let answered = memory.swap(swap_location(swapping), old, new)?;
+            let old = swapping.old_word(task.number);
+            let new = swapping.new_word(task.number);
+            let answered = memory.swap(swapping.location(), old, new)?;
             Ok(on_swap(task, swapping, answered))
         }
     }
@@ -53,72 +49,40 @@ impl<M: Memory> LockVector<M> {
     // Over a memory, not yet set up.
     pub fn new(memory: M) -> LockVector<M>
         ensures memory { result.memory ≡ memory }
-        ensures table { result.table ≡ unprepared }
-        ensures sound { Sound result.table (M.words result.memory) }
+        ensures threads { result.threads ≡ idle_threads 0 0 }
+        ensures sound { Sound result.threads (M.words result.memory) }
     {
-        let table = Table {
-            capacity: 0,
-            threads: 0,
-            rows: [Row::Idle; 8],
-            given: 0,
-        };
-        LockVector { memory, table }
+        let threads = Threads::new(0, 0);
+        LockVector { memory, threads }
     }
 
     // Set-up. It finds every word 0, so that the lock is free and the length 0, and alters none.
     fn prepare(&mut self, capacity: usize, threads: usize) -> Result<(), Refusal>
-        ensures { Prepares self.old.table (M.words self.old.memory) capacity threads result self.new.table (M.words self.new.memory) }
+        ensures { Prepares self.old.threads (M.words self.old.memory) capacity threads result self.new.threads (M.words self.new.memory) }
     {
-        may_set_up(
-            self.table.capacity as usize,
-            capacity,
-            threads,
-            self.memory.len(),
-            self.words_needed(capacity),
-            all_zero(&self.memory),
-        )?;
-        self.table = Table {
-            capacity: capacity as u32,
-            threads,
-            rows: [Row::Idle; 8],
-            given: 0,
-        };
-        Ok(())
+        let words = self.memory.len();
+        let needed = self.words_needed(capacity);
+        let zeros = all_zero(&self.memory);
+        self.threads.set_up(capacity, threads, words, needed, zeros)
     }
 
     // Begin: the operation is at K1, with the next number.
     fn admit(&mut self, thread: usize, op: Op<u32>) -> Result<u32, Refusal>
-        ensures { Admits self.old.table (M.words self.old.memory) thread op result self.new.table (M.words self.new.memory) }
+        ensures { Admits self.old.threads (M.words self.old.memory) thread op result self.new.threads (M.words self.new.memory) }
     {
-        let busy = self.table.row(thread).is_busy();
-        let capacity = self.table.capacity as usize;
-        let given = self.table.given;
-        may_begin(
-            self.table.threads,
-            thread,
-            busy,
-            NUMBERS,
-            given,
-            capacity,
-            op,
-        )?;
-        let number = given + 1;
+        let number = self.threads.grant(thread, NUMBERS, op)?;
         let stage = Stage::Swap(Swapping::K1);
-        self.table.rows[thread - 1] = Row::Busy(Task { number, op, stage });
-        self.table.given = number;
-        Ok(number)
+        self.threads.begin(thread, Task { number, op, stage });
+        Ok(u32::from(number))
     }
 
     // Step: one stage of the thread's operation.
     fn advance(&mut self, thread: usize) -> Result<Stepped<u32>, Refusal>
-        ensures { Advances self.old.table (M.words self.old.memory) thread result self.new.table (M.words self.new.memory) }
+        ensures { Advances self.old.threads (M.words self.old.memory) thread result self.new.threads (M.words self.new.memory) }
     {
-        let row = self.table.row(thread);
-        may_step(self.table.threads, thread, row.is_busy())?;
-        // An idle row was refused just now.
-        let Row::Busy(task) = row else { unreachable() };
-        let moved = act(&mut self.memory, self.table.capacity, task)?;
-        self.table.rows[thread - 1] = moved.row;
+        let task = self.threads.open(thread)?;
+        let moved = act(&mut self.memory, self.threads.capacity, task)?;
+        self.threads.settle(thread, moved.row);
         Ok(moved.stepped)
     }
 }
@@ -132,19 +96,19 @@ pub fn played_runs() -> usize
 }
 
 impl<M: Memory> Container for LockVector<M> {
-    ghost shows = { λ v. shown v.table (M.Memory.words v.memory) };
+    ghost shows = { λ v. shown v.threads (M.Memory.words v.memory) };
 
-    ghost sound = { λ v. Sound v.table (M.Memory.words v.memory) };
+    ghost sound = { λ v. Sound v.threads (M.Memory.words v.memory) };
 
-    ghost setting = { λ v capacity threads r v'. Prepares v.table (M.Memory.words v.memory) capacity threads r v'.table (M.Memory.words v'.memory) };
+    ghost setting = { λ v capacity threads r v'. Prepares v.threads (M.Memory.words v.memory) capacity threads r v'.threads (M.Memory.words v'.memory) };
 
-    ghost beginning = { λ v thread op r v'. Admits v.table (M.Memory.words v.memory) thread op r v'.table (M.Memory.words v'.memory) };
+    ghost beginning = { λ v thread op r v'. Admits v.threads (M.Memory.words v.memory) thread op r v'.threads (M.Memory.words v'.memory) };
 
-    ghost stepping = { λ v thread r v'. Advances v.table (M.Memory.words v.memory) thread r v'.table (M.Memory.words v'.memory) };
+    ghost stepping = { λ v thread r v'. Advances v.threads (M.Memory.words v.memory) thread r v'.threads (M.Memory.words v'.memory) };
 
-    ghost lawful = { λ v. Keeps.lawful v.table (M.Memory.words v.memory) };
+    ghost lawful = { λ v. Keeps.lawful v.threads (M.Memory.words v.memory) };
 
-    ghost fresh = { λ v e. Keeps.fresh v.table (M.Memory.words v.memory) v.few v.eight e };
+    ghost fresh = { λ v e. Keeps.fresh v.threads (M.Memory.words v.memory) v.few v.eight e };
 
     fn set_up(&mut self, capacity: usize, threads: usize) -> Result<(), Refusal> {
         self.prepare(capacity, threads)
@@ -163,7 +127,7 @@ impl<M: Memory> Container for LockVector<M> {
     }
 
     fn numbers(&self) -> u32 {
-        NUMBERS
+        u32::from(NUMBERS)
     }
 
     fn words_needed(&self, capacity: usize) -> usize {

@@ -1,11 +1,10 @@
 // The stages of an operation under the lock, K1 to K6. Each is one load or one swap; what follows from the word that is found,
 // or from yes or no, is decided here, with no memory in sight.
 ghost use Rattle.std.specs.Prelude.{◌≡◌};
-ghost use Rattle.lock_vector.specs.Calls.{busy};
 ghost use Rattle.lock_vector.specs.Stages.{cell, value_of, load_at, swap_at, swap_old, swap_new, quiet, effected, finished, chosen, found, loaded, swapped};
 
 use memory::Swapped;
-use vector::{Answer, Ended, Op, Stepped};
+use vector::{Answer, Ended, Op, Stepped, Task};
 
 // Where the lock is, whose word 0 says that it is free; where the length is; and where the first cell is.
 const LOCK: usize = 0;
@@ -24,7 +23,7 @@ const VALUES: u64 = 1 << 32;
 #[derive(Clone, Copy)]
 pub enum Loading {
     K2,
-    K3 { at: u32 },
+    K3 { at: u16 },
 }
 
 // A stage that swaps. K1: takes the lock. K4: puts a value into the cell at a position, where the word seen was loaded.
@@ -33,7 +32,7 @@ pub enum Loading {
 pub enum Swapping {
     K1,
     K4 {
-        at: u32,
+        at: u16,
         seen: u64,
         value: u32,
     },
@@ -53,43 +52,17 @@ pub enum Stage {
     Swap(Swapping),
 }
 
-// An open operation: its number, and the stage that comes next.
-#[derive(Clone, Copy)]
-pub struct Task {
-    pub number: u32,
-    pub op: Op<u32>,
-    pub stage: Stage,
-}
-
-// A thread's row.
-#[derive(Clone, Copy)]
-pub enum Row {
-    Idle,
-    Busy(Task),
-}
-
-impl Row {
-    pub fn is_busy(&self) -> bool
-        ensures { result ≡ busy self.now }
-    {
-        match self {
-            Row::Idle => false,
-            Row::Busy(_) => true,
-        }
-    }
-}
-
 // What one stage leads to: the thread's row, and what the step tells.
 #[derive(Clone, Copy)]
 pub struct Moved {
-    pub row: Row,
+    pub row: Option<Task<Stage>>,
     pub stepped: Stepped<u32>,
 }
 
-fn cell_at(at: u32) -> usize
+fn cell_at(at: u16) -> usize
     ensures { result ≡ cell at }
 {
-    FIRST_CELL + at as usize
+    FIRST_CELL + usize::from(at)
 }
 
 fn value_in(word: u64) -> u32
@@ -98,53 +71,57 @@ fn value_in(word: u64) -> u32
     (word % VALUES) as u32
 }
 
-pub fn load_location(loading: Loading) -> usize
-    ensures { result ≡ load_at loading }
-{
-    match loading {
-        Loading::K2 => LENGTH,
-        Loading::K3 { at } => cell_at(at),
+impl Loading {
+    pub fn location(self) -> usize
+        ensures { result ≡ load_at self }
+    {
+        match self {
+            Loading::K2 => LENGTH,
+            Loading::K3 { at } => cell_at(at),
+        }
     }
 }
 
-pub fn swap_location(swapping: Swapping) -> usize
-    ensures { result ≡ swap_at swapping }
-{
-    match swapping {
-        Swapping::K1 | Swapping::K6 { .. } => LOCK,
-        Swapping::K4 { at, .. } => cell_at(at),
-        Swapping::K5 { .. } => LENGTH,
+// Its words are those of the operation with this number.
+impl Swapping {
+    pub fn location(self) -> usize
+        ensures { result ≡ swap_at self }
+    {
+        match self {
+            Swapping::K1 | Swapping::K6 { .. } => LOCK,
+            Swapping::K4 { at, .. } => cell_at(at),
+            Swapping::K5 { .. } => LENGTH,
+        }
     }
-}
 
-pub fn old_word(number: u32, swapping: Swapping) -> u64
-    ensures { result ≡ swap_old number swapping }
-{
-    match swapping {
-        Swapping::K1 => 0,
-        Swapping::K4 { seen, .. } => seen,
-        Swapping::K5 { from, .. } => from,
-        Swapping::K6 { .. } => number as u64,
+    pub fn old_word(self, number: u16) -> u64
+        ensures { result ≡ swap_old number self }
+    {
+        match self {
+            Swapping::K1 => 0,
+            Swapping::K4 { seen, .. } => seen,
+            Swapping::K5 { from, .. } => from,
+            Swapping::K6 { .. } => u64::from(number),
+        }
     }
-}
 
-pub fn new_word(number: u32, swapping: Swapping) -> u64
-    ensures { result ≡ swap_new number swapping }
-{
-    match swapping {
-        Swapping::K1 => number as u64,
-        Swapping::K4 { value, .. } => PLAIN + value as u64,
-        Swapping::K5 { to, .. } => to,
-        Swapping::K6 { .. } => 0,
+    pub fn new_word(self, number: u16) -> u64
+        ensures { result ≡ swap_new number self }
+    {
+        match self {
+            Swapping::K1 => u64::from(number),
+            Swapping::K4 { value, .. } => PLAIN + u64::from(value),
+            Swapping::K5 { to, .. } => to,
+            Swapping::K6 { .. } => 0,
+        }
     }
 }
 
 // On to a stage, with nothing to tell.
-fn go(task: Task, stage: Stage) -> Moved
+fn go(task: Task<Stage>, stage: Stage) -> Moved
     ensures { result ≡ quiet task stage }
 {
-    let Task { number, op, .. } = task;
-    let row = Row::Busy(Task { number, op, stage });
+    let row = Some(Task { stage, ..task });
     let stepped = Stepped {
         effect: None,
         end: None,
@@ -153,34 +130,28 @@ fn go(task: Task, stage: Stage) -> Moved
 }
 
 // The operation takes effect, and only the lock is left to be freed.
-fn take_effect(task: Task, answer: Answer<u32>) -> Moved
+fn take_effect(task: Task<Stage>, answer: Answer<u32>) -> Moved
     ensures { result ≡ effected task answer }
 {
-    let Task { number, op, .. } = task;
-    let stage = Stage::Swap(Swapping::K6 { answer });
-    let row = Row::Busy(Task { number, op, stage });
-    let stepped = Stepped {
-        effect: Some(number),
-        end: None,
-    };
-    Moved { row, stepped }
+    let mut moved = go(task, Stage::Swap(Swapping::K6 { answer }));
+    moved.stepped.effect = Some(u32::from(task.number));
+    moved
 }
 
 // The operation ends with the answer kept.
-fn finish(task: Task, answer: Answer<u32>) -> Moved
+fn finish(task: Task<Stage>, answer: Answer<u32>) -> Moved
     ensures { result ≡ finished task answer }
 {
-    let number = task.number;
-    let end = Some(Ended { number, answer });
-    let stepped = Stepped { effect: None, end };
-    Moved {
-        row: Row::Idle,
-        stepped,
-    }
+    let number = u32::from(task.number);
+    let stepped = Stepped {
+        effect: None,
+        end: Some(Ended { number, answer }),
+    };
+    Moved { row: None, stepped }
 }
 
 // K2, with the length.
-fn choose(capacity: u32, task: Task, length: u32) -> Moved
+fn choose(capacity: u16, task: Task<Stage>, length: u16) -> Moved
     ensures { result ≡ chosen capacity task length task.op }
 {
     match task.op {
@@ -199,18 +170,18 @@ fn choose(capacity: u32, task: Task, length: u32) -> Moved
             }
         }
         Op::Read(i) | Op::Write(i, _) => {
-            if i < length as usize {
-                go(task, Stage::Load(Loading::K3 { at: i as u32 }))
+            if i < usize::from(length) {
+                go(task, Stage::Load(Loading::K3 { at: i as u16 }))
             } else {
                 take_effect(task, Answer::Out)
             }
         }
-        Op::Size => take_effect(task, Answer::Length(length as usize)),
+        Op::Size => take_effect(task, Answer::Length(usize::from(length))),
     }
 }
 
 // K3, with the word of the cell at a position. No size comes here.
-fn find(task: Task, at: u32, word: u64) -> Moved
+fn find(task: Task<Stage>, at: u16, word: u64) -> Moved
     ensures { result ≡ found task at word task.op }
 {
     match task.op {
@@ -219,8 +190,8 @@ fn find(task: Task, at: u32, word: u64) -> Moved
             go(task, Stage::Swap(Swapping::K4 { at, seen, value }))
         }
         Op::Pop => {
-            let from = at as u64 + 1;
-            let to = at as u64;
+            let from = u64::from(at) + 1;
+            let to = u64::from(at);
             let answer = Answer::Value(value_in(word));
             go(task, Stage::Swap(Swapping::K5 { from, to, answer }))
         }
@@ -228,21 +199,21 @@ fn find(task: Task, at: u32, word: u64) -> Moved
     }
 }
 
-// What follows from the word that was loaded. No length is above the capacity: cutting it there keeps it a `u32`.
-pub fn on_load(capacity: u32, task: Task, loading: Loading, word: u64) -> Moved
+// What follows from the word that was loaded. No length is above the capacity: cutting it there keeps it a `u16`.
+pub fn on_load(capacity: u16, task: Task<Stage>, loading: Loading, word: u64) -> Moved
     ensures { result ≡ loaded capacity task loading word }
 {
     match loading {
         Loading::K2 => {
-            let length = word.min(capacity as u64);
-            choose(capacity, task, length as u32)
+            let length = word.min(u64::from(capacity));
+            choose(capacity, task, length as u16)
         }
         Loading::K3 { at } => find(task, at, word),
     }
 }
 
 // What follows from yes or no. Only K1 asks which it was: who has the lock is never answered no.
-pub fn on_swap(task: Task, swapping: Swapping, answered: Swapped) -> Moved
+pub fn on_swap(task: Task<Stage>, swapping: Swapping, answered: Swapped) -> Moved
     ensures { result ≡ swapped task swapping answered }
 {
     match swapping {
@@ -252,9 +223,9 @@ pub fn on_swap(task: Task, swapping: Swapping, answered: Swapped) -> Moved
         },
         Swapping::K4 { at, .. } => {
             if let Op::Push(_) = task.op {
-                let from = at as u64;
-                let to = at as u64 + 1;
-                let answer = Answer::Position(at as usize);
+                let from = u64::from(at);
+                let to = u64::from(at) + 1;
+                let answer = Answer::Position(usize::from(at));
                 go(task, Stage::Swap(Swapping::K5 { from, to, answer }))
             } else {
                 take_effect(task, Answer::Done)

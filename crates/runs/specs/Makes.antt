@@ -28,11 +28,11 @@ bucketed_words m = joined (vec_items m.buckets)
 -- the vector under a lock over a memory
 abbrev pub lock_vector : {M : Type 0} (words : M → List ℕ) → Container (LockVector M (record { words = words }))
 lock_vector words = record {
-  shows = λ v. lock_meaning.shown v.table (words v.memory);
-  sound = λ v. lock_meaning.Sound v.table (words v.memory);
-  setting = λ v capacity threads r v'. lock_calls.Prepares v.table (words v.memory) capacity threads r v'.table (words v'.memory);
-  beginning = λ v thread op r v'. lock_calls.Admits v.table (words v.memory) thread op r v'.table (words v'.memory);
-  stepping = λ v thread r v'. lock_calls.Advances v.table (words v.memory) thread r v'.table (words v'.memory);
+  shows = λ v. lock_meaning.shown v.threads (words v.memory);
+  sound = λ v. lock_meaning.Sound v.threads (words v.memory);
+  setting = λ v capacity threads r v'. lock_calls.Prepares v.threads (words v.memory) capacity threads r v'.threads (words v'.memory);
+  beginning = λ v thread op r v'. lock_calls.Admits v.threads (words v.memory) thread op r v'.threads (words v'.memory);
+  stepping = λ v thread r v'. lock_calls.Advances v.threads (words v.memory) thread r v'.threads (words v'.memory);
 }
 
 -- the descriptor vector over a memory

@@ -1,11 +1,16 @@
 -- The rows of threads: as a container keeps them, and what they mean.
-use Rattle.std.proofs.Common.{◌≡◌, ◌∙◌, ℕ, zero, suc, ◌-◌, ◌<◌, ◌≤◌, List, [], ◌∷◌, map, length, take, set, None, Option, is_some, slice_index_or, sym, refl, ap, arith}
+use Rattle.std.proofs.Common.{◌≡◌, ◌∙◌, ℕ, zero, suc, ◌-◌, ◌<◌, ◌≤◌, ◌≢◌, List, [], ◌∷◌, map, length, take, set, replicate, sum_by, None, Option, is_some, slice_index_or, sym, refl, ap, subst, inl, inr, arith}
 use Rattle.std.proofs.Math.ListN.{get_or-eq_default}
 use Rattle.std.proofs.Math.Seq.{take-set-lt}
-use Rattle.std.proofs.lemmas.List.{length-map, length-take-le, get_or-take, map-set, set-get_or}
+use Rattle.std.proofs.lemmas.Bool.{cases_eq, cases_Bool}
+use Rattle.std.proofs.lemmas.List.{length-map, length-take-le, get_or-take, get_or-set_same, get_or-set_other, map-set, set-get_or}
+use Rattle.std.proofs.lemmas.List.Sums.{sum_by-set, get_or-le-sum_by}
 use Rattle.vector.specs.Meaning.{Row, idle, row_of, is_open}
+use Rattle.vector.specs.Refusals.{first_row, outside, begin_rows, step_rows}
 use Rattle.vector.specs.Threads.{task_of}
+use Rattle.vector.specs.declared.Op.{Op}
 use Rattle.vector.specs.declared.threads.Task.{Task}
+use Rattle.vector.proofs.Preparing.{from_outside}
 
 -- threads go from 1, places from 0
 pub row_of_place : (rows : List Row) (t : ℕ) → 1 ≤ t → row_of rows t ≡ slice_index_or rows (t - 1) idle
@@ -42,6 +47,11 @@ module _ {S : Type 0} where
     row_means rows zero = sym nothing
     row_means rows (suc i) = place_means rows i
 
+    -- with nothing open all are idle
+    pub all_idle : (n : ℕ) → map meant (replicate n None) ≡ replicate n idle
+    all_idle zero = refl
+    all_idle (suc n) = rw (nothing, all_idle n)
+
     -- the first n rows, where there are as many
     module _ (n : ℕ) (rows : List (Option (Task S))) (few : n ≤ length rows) where
       pub count : length (map meant (take n rows)) ≡ n
@@ -58,3 +68,60 @@ module _ {S : Type 0} where
       -- where something open is what is open in the meaning
       pub opens : ((o : Option (Task S)) → is_open (meant o) ≡ is_some o) → (t : ℕ) → t ≤ n → is_open (row_of (map meant (take n rows)) t) ≡ is_some (task_of rows t)
       opens same t high = ap is_open (means t high) ∙ same (task_of rows t)
+
+      -- there a call is refused by what is kept just where it is by the meaning
+      module _ (same : (o : Option (Task S)) → is_open (meant o) ≡ is_some o) where
+        pub begin_same : {V : Type 0} (t numbers given capacity : ℕ) (op : Op V)
+            → first_row (begin_rows n t (is_some (task_of rows t)) numbers given capacity op) ≡ first_row (begin_rows (length (map meant (take n rows))) t (is_open (row_of (map meant (take n rows)) t)) numbers given capacity op)
+        begin_same t numbers given capacity op = rw count (elim (cases_Bool (outside 1 n t)) [
+          | inl e ↦ rw e
+          | inr e ↦ rw (opens same t (from_outside 1 n t e).1)
+        ])
+
+        pub step_same : (t : ℕ) → first_row (step_rows n t (is_some (task_of rows t))) ≡ first_row (step_rows (length (map meant (take n rows))) t (is_open (row_of (map meant (take n rows)) t)))
+        step_same t = rw count (elim (cases_Bool (outside 1 n t)) [
+          | inl e ↦ rw e
+          | inr e ↦ rw (opens same t (from_outside 1 n t e).1)
+        ])
+
+  -- no thread has anything open
+  pub none_open : (n t : ℕ) → task_of {S = S} (replicate n None) t ≡ None
+  none_open n zero = refl
+  none_open zero (suc i) = refl
+  none_open (suc n) (suc zero) = refl
+  none_open (suc n) (suc (suc i)) = none_open n (suc i)
+
+  -- thread t has another row, and the others have theirs
+  pub task_set_same : (rows : List (Option (Task S))) (t : ℕ) (row : Option (Task S)) → 1 ≤ t → t ≤ length rows → task_of (set rows (t - 1) row) t ≡ row
+  task_set_same rows t row low high = task_of_place _ t low ∙ get_or-set_same rows (t - 1) row None (omega arith)
+
+  pub task_set_other : (rows : List (Option (Task S))) (t u : ℕ) (row : Option (Task S)) → 1 ≤ t → u ≢ t → task_of (set rows (t - 1) row) u ≡ task_of rows u
+  task_set_other rows t zero row low apart = refl
+  task_set_other rows t (suc j) row low apart = get_or-set_other rows (t - 1) j row None (λ e. apart (omega (arith, e)))
+
+  -- what holds of thread t with its new row, and of the other threads with theirs, holds of all
+  pub at_tasks : (P : ℕ → Option (Task S) → Type 0) (rows : List (Option (Task S))) (t : ℕ) (row : Option (Task S)) → 1 ≤ t → t ≤ length rows
+      → P t row → ((u : ℕ) → u ≢ t → P u (task_of rows u)) → (u : ℕ) → P u (task_of (set rows (t - 1) row) u)
+  at_tasks P rows t row low high here there u = elim (cases_eq u t) [
+    | inl e ↦ rw e (subst (P t) (sym (task_set_same rows t row low high)) here)
+    | inr apart ↦ subst (P u) (sym (task_set_other rows t u row low apart)) (there u apart)
+  ]
+
+  -- the steps left of the first n rows, each row having its own
+  module _ (left : Option (Task S) → ℕ) (n : ℕ) (rows : List (Option (Task S))) (few : n ≤ length rows) (t : ℕ) (low : 1 ≤ t) (high : t ≤ n) where
+    own : slice_index_or (take n rows) (t - 1) None ≡ task_of rows t
+    own = sym (task_of_place (take n rows) t low) ∙ same_task n rows t high
+
+    place : t - 1 < length (take n rows)
+    place = let e = length-take-le n rows few in omega arith
+
+    pub left_open : left (task_of rows t) ≤ sum_by left (take n rows)
+    left_open = subst (λ o. left o ≤ sum_by left (take n rows)) own (get_or-le-sum_by left (take n rows) (t - 1) None place)
+
+    pub left_after : (row : Option (Task S)) → left row < left (task_of rows t) → sum_by left (take n (set rows (t - 1) row)) < sum_by left (take n rows)
+    left_after row less =
+        let l : t - 1 < n = omega arith in
+        let s = sum_by-set left (take n rows) (t - 1) row None place in
+        let e = ap left own in
+        let h = ap (sum_by left) (take-set-lt n rows (t - 1) row l) in
+        omega arith

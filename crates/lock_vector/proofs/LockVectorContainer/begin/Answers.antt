@@ -1,5 +1,5 @@
 use Rattle.lock_vector.specs.Keeps.{keeps_begin}
 use Rattle.lock_vector.proofs.LockVectorContainer.begin.Goals as goal
 
-pub returns : goal.returns
-returns g c = record { means = keeps_begin _ _ _ _ c.admit.result _ _ c.admit.ensures; table = c.admit.ensures }
+pub returns-clause-means : goal.returns-clause-means
+returns-clause-means g c = keeps_begin _ _ _ _ _ _ _ c.admit.ensures
