@@ -1,126 +1,102 @@
--- What the calls do to what the container shows: over its parts, with rs the rows of the threads.
-use Rattle.std.specs.Prelude.{◌≡◌, ℕ, zero, suc, ◌-◌, ◌<◌, ◌≤◌, Bool, true, cond, ◌&&◌, List, [], ◌∷◌, map, length, take, replicate, is_some, Some, None, count_by, Option, nat_le, slice_index_or, slice_set, refl}
-use Rattle.std.proofs.Math.Path.{sym, ap}
-use Rattle.std.proofs.Common.{◌∙◌, arith}
-use Rattle.std.proofs.lemmas.List.{length-map, length-take, get_or-take, get_or_past, map-set, set-set}
-use Rattle.std.proofs.lemmas.List.Sums.{sum_by-set, count_by-le-length, get_or-le-sum_by}
-use Rattle.std.proofs.lemmas.Bool.{and_parts, not-false, leb-true}
+-- What the calls do to what the container shows.
+use Rattle.std.specs.Prelude.{◌≡◌, ℕ, suc, ◌-◌, ◌<◌, ◌≤◌, true, cond, List, [], map, length, take, is_some, Some, None, Ok, Err, Option, Result, slice_set, refl}
+use Rattle.std.proofs.Common.{sym, ap, ◌∙◌, arith}
+use Rattle.std.proofs.lemmas.List.{length-take-le, take-replicate, set-set}
+use Rattle.std.proofs.lemmas.List.Sums.{count_by-le-length}
+use Rattle.refusal.specs.declared.Refusal.{Refusal}
 use Rattle.vector.specs.Plain.{answer, after}
-use Rattle.vector.specs.Meaning.{Row, idle, waiting, served, Meaning, Lawful, row_of, is_open, unset}
-use Rattle.vector.specs.Refusals.{first_row, outside, begin_rows, step_rows}
-use Rattle.vector.specs.Calls.{begin_refused, step_refused, begun, taken, Moves}
+use Rattle.vector.specs.Meaning.{Row, idle, waiting, served, Meaning, Lawful, is_open}
+use Rattle.vector.specs.Refusals.{Judged, first_row, set_up_rows, begin_rows, step_rows}
+use Rattle.vector.specs.Calls.{SetsUp, Begins, Steps, taken}
+use Rattle.vector.specs.Threads.{idle_threads, task_of, with_row, begun_by, rows_of}
 use Rattle.vector.specs.declared.Op.{Op}
-use Rattle.vector.specs.declared.Answer.{Answer}
-use Rattle.vector.proofs.Rows.{passes, row_set_same}
-use Rattle.direct.specs.Shows.{row, shown, own_of, whole}
-use Rattle.direct.specs.declared.Waiting.{Waiting}
+use Rattle.vector.specs.declared.threads.Threads.{Threads}
+use Rattle.vector.proofs.Rows.{row_set_same}
+use Rattle.vector.proofs.Tasks.{set_up_granted, begin_granted, step_granted, all_idle, count, means, rows_after, begin_same, step_same, left_after, left_some}
+use Rattle.direct.specs.Shows.{Own, row, shown, whole}
+use Rattle.direct.specs.Fields.{held}
+use Rattle.direct.specs.declared.Direct.{Direct}
 
-get_or_row : (rs : List (Option Waiting)) (i : ℕ) → row (slice_index_or rs i None) ≡ slice_index_or (map row rs) i idle
-get_or_row [] i = refl
-get_or_row (o ∷ rs) zero = refl
-get_or_row (o ∷ rs) (suc i) = get_or_row rs i
-
--- the row of a thread means its operation
-own_means : (rs : List (Option Waiting)) (t : ℕ) → row (own_of rs t) ≡ row_of (map row rs) t
-own_means rs zero = refl
-own_means rs (suc i) = get_or_row rs i
-
-open_row : (o : Option Waiting) → is_open (row o) ≡ is_some o
+open_row : (o : Option Own) → is_open (row o) ≡ is_some o
 open_row None = refl
 open_row (Some w) = refl
 
-busy_open : (rs : List (Option Waiting)) (t : ℕ) → is_open (row_of (map row rs) t) ≡ is_some (own_of rs t)
-busy_open rs t = ap is_open (sym (own_means rs t)) ∙ open_row (own_of rs t)
-
-within : (rs : List (Option Waiting)) (i : ℕ) → is_some (slice_index_or rs i None) ≡ true → i < length rs
-within [] i e = let z : ◌≡◌ {A = ℕ} 0 1 = cc in absurd (omega arith)
-within (o ∷ rs) zero e = omega arith
-within (o ∷ rs) (suc i) e = let h = within rs i e in omega arith
-
--- where the operation of a thread stands
-own_at : (rs : List (Option Waiting)) (t : ℕ) → is_some (own_of rs t) ≡ true → (1 ≤ t) × (t ≤ length rs) × (own_of rs t ≡ slice_index_or rs (t - 1) None)
-own_at rs zero e = let z : ◌≡◌ {A = ℕ} 0 1 = cc in absurd (omega arith)
-own_at rs (suc i) e = let j : suc i - 1 ≡ i = omega arith in let h = within rs i e in (omega arith, omega arith, rw j refl)
-
--- the code's way to it
-pub own_in : (rows : List (Option Waiting)) (n t : ℕ) → 1 ≤ t → t ≤ n → slice_index_or rows (t - 1) None ≡ own_of (take n rows) t
-own_in rows n zero low high = absurd (omega arith)
-own_in rows n (suc i) low high = let j : suc i - 1 ≡ i = omega arith in rw j (sym (get_or-take n rows i None high))
-
-pub own_out : (rows : List (Option Waiting)) (n t : ℕ) → n < t → None ≡ own_of (take n rows) t
-own_out rows n zero more = absurd (omega arith)
-own_out rows n (suc i) more = sym (get_or_past (take n rows) i None (omega (arith, length-take n rows)))
-
--- a number that the first test of a table lets through
-pub inside : (low high n m : ℕ) (rows : List (Bool × ℕ)) → first_row ((outside low high n, m) ∷ rows) ≡ None → (low ≤ n) × (n ≤ high)
-inside low high n m rows e =
-    let p = (passes (outside low high n) m rows e).0 in
-    let b = and_parts (nat_le low n) (nat_le n high) (not-false (nat_le low n && nat_le n high) p) in
-    (leb-true low n b.0, leb-true n high b.1)
-
-abbrev one_if : Option Waiting → ℕ
+-- the step of a thread that has an operation
+abbrev one_if : Option Own → ℕ
 one_if o = cond (is_some o) 1 0
 
-module _ (k : ℕ) (items : List ℕ) (rs : List (Option Waiting)) (given : ℕ) where
-  pub lawful : length rs ≤ 8 → (k ≡ 0 → (shown k items rs given).meaning ≡ unset) → Lawful (shown k items rs given)
-  lawful few before = record {
-    before = before;
-    left_alone = λ t alone.
-        let busy : is_some (own_of rs t) ≡ true = sym (busy_open rs t) ∙ alone.0 in
-        let p = own_at rs t busy in
-        let one : one_if (slice_index_or rs (t - 1) None) ≡ 1 = ap one_if (sym p.2) ∙ ap (λ b. cond b 1 0) busy in
-        let low = p.0 in
-        let high = p.1 in
-        (omega (arith, get_or-le-sum_by one_if rs (t - 1) None (omega arith), one), omega (arith, count_by-le-length is_some rs, few));
-    some_numbers = omega arith;
-    few_numbers = omega arith;
-  }
+some_one : (o : Option Own) → is_some o ≡ true → 0 < one_if o
+some_one o e = rw e (omega arith)
 
-  module _ (threads : ℕ) (long : length rs ≡ threads) where
-    -- the tables of refusals by the fields, and by what is shown
-    pub begin_same : {V : Type 0} (t : ℕ) (op : Op V) → begin_refused (shown k items rs given) t op ≡ begin_rows threads t (is_some (own_of rs t)) 400 given k op
-    begin_same t op = rw (length-map rs row, long, busy_open rs t)
+same_parts : (c c' g g' : ℕ) (xs xs' : List ℕ) (rows rows' : List Row) → c ≡ c' → xs ≡ xs' → rows ≡ rows' → g ≡ g'
+    → ◌≡◌ {A = Meaning} (record { capacity = c; items = xs; rows = rows; given = g }) (record { capacity = c'; items = xs'; rows = rows'; given = g' })
+same_parts c c' g g' xs xs' rows rows' p q r s = cc
 
-    pub step_same : (t : ℕ) → step_refused (shown k items rs given) t ≡ step_rows threads t (is_some (own_of rs t))
-    step_same t = rw (length-map rs row, long, busy_open rs t)
+module _ (T : Threads (Unit {0})) (xs : List ℕ) (few : T.count ≤ 8) (eight : length T.rows ≡ 8) where
+  abbrev m : Meaning
+  m = (shown T xs).meaning
 
-  mean : List ℕ → List Row → ℕ → Meaning
-  mean ys rows n = record { capacity = k; items = ys; rows = rows; given = n }
+  long : T.count ≤ length T.rows
+  long = omega arith
 
-  pub begun_now : (t : ℕ) (w : Waiting) (new : List (Option Waiting)) → w.number ≡ suc given → new ≡ slice_set rs (t - 1) (Some w) → (shown k items new w.number).meaning ≡ begun (shown k items rs given).meaning t w.op
-  unfolding mean
-  begun_now t w new n put =
-      ap (λ r. mean items r w.number) (ap (map row) put ∙ map-set row rs (t - 1) (Some w))
-      ∙ ap (λ j. mean items (slice_set (map row rs) (t - 1) (waiting w.op j)) j) n
+  few_left : (shown T xs).left ≤ 8
+  few_left = let a = count_by-le-length is_some (rows_of T) in let b = length-take-le T.count T.rows long in omega arith
 
-  pub moved : (t : ℕ) (w : Waiting) (a : Answer ℕ) (ys : List ℕ) (new : List (Option Waiting))
-      → own_of rs t ≡ Some w → a ≡ answer k items w.op → ys ≡ after k items w.op → new ≡ slice_set rs (t - 1) None
-      → Moves (shown k items rs given).meaning t (whole w.number a) (shown k ys new given).meaning
-  unfolding mean
-  moved t w a ys new own answers holds put =
-      let m = (shown k items rs given).meaning in
-      let p = own_at rs t (ap is_some own) in
-      let high : t ≤ length (map row rs) = omega (arith, p.1, length-map rs row) in
-      let is : row_of (map row rs) t ≡ waiting w.op w.number = sym (own_means rs t) ∙ ap row own in
-      let now_served = served w.op w.number (answer k items w.op) in (
-        taken m t w.op w.number,
-        (t, w.op, is, refl),
+  -- a set-up finds no values there
+  pub sets_up : {X : Type 0} (k n : ℕ) (r : Result X Refusal) (T' : Threads (Unit {0})) → (T.capacity ≡ 0 → xs ≡ [])
+      → Judged (set_up_rows T.capacity k n 0 0 true) r (T' ≡ T) (λ _. T' ≡ idle_threads k n) → SetsUp (shown T xs) k n r (shown T' xs)
+  sets_up k n (Err f) T' bare h = (h.0, rw h.1)
+  sets_up k n (Ok x) T' bare h =
+      let g = set_up_granted T.capacity k n 0 0 true h.0 in
+      let rows = ap (map row) (take-replicate n 8 None g.4) ∙ all_idle row refl n in
+      rw h.1 (h.0, (same_parts _ _ _ _ _ _ _ _ refl (bare g.0) rows refl, refl))
+
+  pub begins : (t : ℕ) (op : Op ℕ) (n : ℕ) → first_row (begin_rows T.count t (is_some (task_of T.rows t)) 400 T.given T.capacity op) ≡ None
+      → n ≡ suc T.given → Begins (shown T xs) t op (Ok n) (shown (begun_by T t (record { number = n; op = op; stage = tt })) xs)
+  begins t op n e next =
+      let g = begin_granted T.count t (is_some (task_of T.rows t)) _ e in
+      let w : Own = record { number = n; op = op; stage = tt } in (
+        sym (begin_same row refl T.count T.rows long open_row t 400 T.given T.capacity op) ∙ e,
         (
-          w.op,
-          row_set_same (map row rs) t now_served p.0 high ∙ ap (served w.op w.number) (sym answers),
-          ap (λ i. mean i (map row new) given) holds
-              ∙ ap (λ r. mean (after k items w.op) r given) (ap (map row) put ∙ map-set row rs (t - 1) None ∙ sym (set-set (map row rs) (t - 1) now_served idle)),
+          next,
+          same_parts _ _ _ _ _ _ _ _ refl refl
+              (rows_after row refl T.count T.rows long t (Some w) g.0 g.1 ∙ ap (λ i. slice_set m.rows (t - 1) (waiting op i)) next)
+              next,
+          refl,
         ),
       )
 
-  pub falls : (t : ℕ) (w : Waiting) (new : List (Option Waiting)) → own_of rs t ≡ Some w → new ≡ slice_set rs (t - 1) None → count_by is_some new < count_by is_some rs
-  falls t w new own put =
-      let p = own_at rs t (ap is_some own) in
-      let low = p.0 in
-      let high = p.1 in
-      let one : one_if (slice_index_or rs (t - 1) None) ≡ 1 = ap one_if (sym p.2 ∙ own) in
-      rw put (omega (arith, sum_by-set one_if rs (t - 1) None None (omega arith), one))
+  pub steps : (t : ℕ) (w : Own) → first_row (step_rows T.count t (is_some (task_of T.rows t))) ≡ None → task_of T.rows t ≡ Some w
+      → Steps (shown T xs) t (Ok (whole w.number (answer T.capacity xs w.op))) (shown (with_row T t None) (after T.capacity xs w.op))
+  steps t w e here =
+      let g = step_granted T.count t (is_some (task_of T.rows t)) [] e in
+      let low = g.0 in
+      let high = g.1 in
+      let l = count row refl T.count T.rows long in
+      let now : Row = served w.op w.number (answer T.capacity xs w.op) in
+      let one = ap one_if here in (
+        sym (step_same row refl T.count T.rows long open_row t) ∙ e,
+        (
+          (
+            taken m t w.op w.number,
+            (t, w.op, means row refl T.count T.rows long t high ∙ ap row here, refl),
+            (
+              w.op,
+              row_set_same m.rows t now low (omega arith),
+              same_parts _ _ _ _ _ _ _ _ refl refl
+                  (rows_after row refl T.count T.rows long t None low high ∙ sym (set-set m.rows (t - 1) now idle))
+                  refl,
+            ),
+          ),
+          refl,
+          λ _. left_after one_if T.count T.rows long t low high None (omega arith),
+        ),
+      )
 
-pub rows_idle : (n : ℕ) → map row (replicate n None) ≡ replicate n idle
-rows_idle zero = refl
-rows_idle (suc n) = ap (λ (rows : List Row). idle ∷ rows) (rows_idle n)
+pub lawful : (d : Direct) → Lawful (shown d.threads (held d))
+lawful d = record {
+  before = λ z. let b = d.bare z in same_parts _ _ _ _ _ _ _ _ z b.1 (ap (λ n. map row (take n d.threads.rows)) b.0) b.2;
+  left_alone = λ t alone. (left_some row refl open_row one_if some_one d.threads.count d.threads.rows (long d.threads (held d) d.few d.eight) t alone.0, few_left d.threads (held d) d.few d.eight);
+  some_numbers = omega arith;
+  few_numbers = omega arith;
+}

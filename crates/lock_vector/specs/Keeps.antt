@@ -1,21 +1,20 @@
 -- Every call keeps a sound vector sound, and does to its meaning what a container does: from the tables of the calls alone.
-use Rattle.std.specs.Prelude.{◌≡◌, ℕ, suc, ◌-◌, ◌<◌, ◌≤◌, min, true, false, not, ◌≢◌, List, [], ◌∷◌, map, length, take, is_some, Some, None, sum_by, Ok, Err, Option, Result, nat_le, nat_lt, slice_index, slice_set, refl}
+use Rattle.std.specs.Prelude.{◌≡◌, ℕ, suc, ◌-◌, ◌≤◌, min, true, false, not, ◌≢◌, List, [], ◌∷◌, map, length, take, is_some, Some, None, Ok, Err, Option, Result, nat_le, slice_index, slice_set, refl}
 use Rattle.std.proofs.Common.{sym, ap, subst, ◌∙◌, inl, inr, arith}
 use Rattle.std.proofs.lemmas.List.{length-set, take-replicate, length-take-le}
-use Rattle.std.proofs.lemmas.Bool.{cases_Bool, not-false, ltb-false, lt-leb}
+use Rattle.std.proofs.lemmas.Bool.{cases_Bool, lt-leb}
 use Rattle.refusal.specs.declared.Refusal.{Refusal}
 use Rattle.vector.specs.declared.Op.{Op}
 use Rattle.vector.specs.declared.Stepped.{Stepped}
 use Rattle.vector.specs.declared.threads.Task.{Task}
 use Rattle.vector.specs.declared.threads.Threads.{Threads}
-use Rattle.vector.specs.Meaning.{Row, Lawful, Meaning, row_of, is_open, unset}
+use Rattle.vector.specs.Meaning.{Row, Lawful, Meaning, unset}
 use Rattle.vector.specs.Refusals.{first_row, outside, set_up_rows}
 use Rattle.vector.specs.Plain.{Small}
 use Rattle.vector.specs.Calls.{all_zero, begin_refused, step_refused, SetsUp, Begins, Steps, begun, set_up}
 use Rattle.vector.specs.Threads.{idle_threads, task_of, with_row, rows_of}
-use Rattle.vector.proofs.Rows.{open_within, passes}
 use Rattle.vector.proofs.Preparing.{zeros_at, from_outside}
-use Rattle.vector.proofs.Tasks.{all_idle, count, opens, rows_after, begin_same, step_same, none_open, task_set_other, at_tasks, left_open}
+use Rattle.vector.proofs.Tasks.{set_up_granted, begin_granted, step_granted, all_idle, count, rows_after, begin_same, step_same, none_open, task_set_other, at_tasks, left_some}
 use Rattle.lock_vector.specs.declared.stages.Stage.{Stage}
 use Rattle.lock_vector.specs.Calls.{needed, first_stage, admitted, admit_rows, advance_rows, Prepares, Admits, Advances, moved_row, stored_row, location, location_of}
 use Rattle.lock_vector.specs.Meaning.{values, items, meant, rank, shown, inside, Inside, Lock, free, held, Known, Running, Sound}
@@ -40,19 +39,13 @@ module _ (T : Threads Stage) (W : List ℕ) (sound : Sound T W) where
       | inl b ↦ (λ z. let m : min (slice_index W 1) 0 ≡ 0 = omega arith in rw (b.bare, b.ungiven, b.none, m) refl)
       | inr run ↦ (λ z. let o = run.some in absurd (omega arith))
     ];
-    left_alone = λ t alone. (some t alone.0, (let a = ranks_small (rows_of T) in let b = length-take-le T.count T.rows few in let d = small in omega arith));
+    left_alone = λ t alone. (
+      left_some meant refl open_meant rank rank_open T.count T.rows few t alone.0,
+      (let a = ranks_small (rows_of T) in let b = length-take-le T.count T.rows few in let d = small in omega arith),
+    );
     some_numbers = omega arith;
     few_numbers = omega arith;
   }
-    where
-      some : (t : ℕ) → is_open (row_of (shown T W).meaning.rows t) ≡ true → 0 < sum_by rank (rows_of T)
-      some t e =
-          let b = open_within (shown T W).meaning.rows t e in
-          let n = count meant refl T.count T.rows few in
-          let high : t ≤ T.count = omega arith in
-          let k = rank_open (task_of T.rows t) (sym (opens meant refl T.count T.rows few open_meant t high) ∙ e) in
-          let l = left_open rank T.count T.rows few t b.0 high in
-          omega arith
 
   begin_refused_same : (t : ℕ) (op : Op ℕ) → first_row (admit_rows T t op) ≡ first_row (begin_refused (shown T W) t op)
   begin_refused_same t op = begin_same meant refl T.count T.rows few open_meant t 400 T.given T.capacity op
@@ -79,25 +72,19 @@ still T T' W W' sound p q = rw (p, q) (sound, refl)
 
 granted_set_up : (T : Threads Stage) (W : List ℕ) (k n : ℕ) → first_row (set_up_rows T.capacity k n (length W) (needed k) (all_zero W)) ≡ None → Running (idle_threads k n) W × ((shown (idle_threads k n) W).meaning ≡ set_up k n)
 granted_set_up T W k n e =
-    let p1 = passes (nat_lt 0 T.capacity) 15 _ e in
-    let p2 = passes (outside 1 64 k) 10 _ p1.1 in
-    let p3 = passes (outside 1 8 n) 11 _ p2.1 in
-    let p4 = passes (nat_lt (length W) (needed k)) 12 _ p3.1 in
-    let p5 = passes (not (all_zero W)) 13 [] p4.1 in
-    let zero_words : all_zero W ≡ true = not-false (all_zero W) p5.0 in
-    let lock = zeros_at W 0 zero_words in
-    let len = zeros_at W 1 zero_words in
-    let none : min (slice_index W 1) k ≡ 0 = omega arith in
-    let few : n ≤ 8 = (from_outside 1 8 n p3.0).1 in (
+    let g = set_up_granted T.capacity k n (length W) (needed k) (all_zero W) e in
+    let lock = zeros_at W 0 g.6 in
+    let len = zeros_at W 1 g.6 in
+    let none : min (slice_index W 1) k ≡ 0 = omega arith in (
       record {
-        some = (from_outside 1 64 k p2.0).0;
-        few = few;
+        some = g.1;
+        few = g.4;
         eight = refl;
-        fit = record { room = ltb-false (length W) (needed k) p4.0; within = omega arith; plains = λ i l. absurd (omega arith) };
+        fit = record { room = g.5; within = omega arith; plains = λ i l. absurd (omega arith) };
         known = λ u. subst (Known 0) (sym (none_open 8 u)) tt;
         lock = free lock (λ u. ap inside (none_open 8 u));
       },
-      mean_eq k 0 (items k W) [] _ _ (ap (λ m. take m (values W)) none) (ap (map meant) (take-replicate n 8 None few) ∙ all_idle meant refl n),
+      mean_eq k 0 (items k W) [] _ _ (ap (λ m. take m (values W)) none) (ap (map meant) (take-replicate n 8 None g.4) ∙ all_idle meant refl n),
     )
 
 pub keeps_set_up : {X : Type 0} (T : Threads Stage) (W : List ℕ) (k n : ℕ) (r : Result X Refusal) (T' : Threads Stage) (W' : List ℕ)
@@ -113,10 +100,8 @@ new_row T op = Some (first_stage (suc T.given) op)
 granted_begin : (T : Threads Stage) (W : List ℕ) (t : ℕ) (op : Op ℕ) → Sound T W → Small op → first_row (admit_rows T t op) ≡ None
     → Running (admitted T t op) W × ((shown (admitted T t op) W).meaning ≡ begun (shown T W).meaning t op)
 granted_begin T W t op sound small_op e =
-    let p1 = passes (outside 1 T.count t) 20 _ e in
-    let p2 = passes (is_some (task_of T.rows t)) 21 _ p1.1 in
-    let b = from_outside 1 T.count t p1.0 in
-    go b.0 b.1 p2.0 (running T W sound t b.0 b.1)
+    let g = begin_granted T.count t (is_some (task_of T.rows t)) _ e in
+    go g.0 g.1 g.2 (running T W sound t g.0 g.1)
   where
     outside_lock : (row : Option (Task Stage)) → is_some row ≡ false → inside row ≡ false
     outside_lock None h = refl
@@ -167,10 +152,8 @@ pub keeps_step : (T : Threads Stage) (W : List ℕ) (t : ℕ) (r : Result (Stepp
     → Advances T W t r T' W' → Sound T W → Sound T' W' × Steps (shown T W) t r (shown T' W')
 keeps_step T W t (Err f) T' W' h sound = let s = still T T' W W' sound h.1.0 h.1.1 in (s.0, (sym (step_refused_same T W sound t) ∙ h.0, s.1))
 keeps_step T W t (Ok s) T' W' h sound =
-    let p = passes (outside 1 T.count t) 20 _ h.0 in
-    let q = passes (not (is_some (task_of T.rows t))) 25 _ p.1 in
-    let b = from_outside 1 T.count t p.0 in
-    let g = granted_step T W t (running T W sound t b.0 b.1) b.0 b.1 (task_of T.rows t) refl (not-false (is_some (task_of T.rows t)) q.0) in
+    let b = step_granted T.count t (is_some (task_of T.rows t)) _ h.0 in
+    let g = granted_step T W t (running T W sound t b.0 b.1) b.0 b.1 (task_of T.rows t) refl b.2 in
     rw (h.1.0, h.1.1, h.1.2) (inr g.runs, (sym (step_refused_same T W sound t) ∙ h.0, (g.moves, refl, g.falls)))
 
 -- whatever is not yet set up is sound

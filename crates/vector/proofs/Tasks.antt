@@ -1,16 +1,17 @@
--- The rows of threads: as a container keeps them, and what they mean.
-use Rattle.std.proofs.Common.{◌≡◌, ◌∙◌, ℕ, zero, suc, ◌-◌, ◌<◌, ◌≤◌, ◌≢◌, List, [], ◌∷◌, map, length, take, set, replicate, sum_by, None, Option, is_some, slice_index_or, sym, refl, ap, subst, inl, inr, arith}
+-- The rows of threads: as a container keeps them, and what they mean; and what holds where a call is granted.
+use Rattle.std.proofs.Common.{◌≡◌, ◌∙◌, ℕ, zero, suc, ◌-◌, ◌<◌, ◌≤◌, Bool, true, false, not, ltb, ◌≢◌, List, [], ◌∷◌, map, length, take, set, replicate, sum_by, None, Option, is_some, slice_index_or, sym, refl, ap, subst, inl, inr, arith}
 use Rattle.std.proofs.Math.ListN.{get_or-eq_default}
 use Rattle.std.proofs.Math.Seq.{take-set-lt}
-use Rattle.std.proofs.lemmas.Bool.{cases_eq, cases_Bool}
+use Rattle.std.proofs.lemmas.Bool.{cases_eq, cases_Bool, not-false, ltb-false}
 use Rattle.std.proofs.lemmas.List.{length-map, length-take-le, get_or-take, get_or-set_same, get_or-set_other, map-set, set-get_or}
 use Rattle.std.proofs.lemmas.List.Sums.{sum_by-set, get_or-le-sum_by}
 use Rattle.vector.specs.Meaning.{Row, idle, row_of, is_open}
-use Rattle.vector.specs.Refusals.{first_row, outside, begin_rows, step_rows}
+use Rattle.vector.specs.Refusals.{first_row, outside, set_up_rows, begin_rows, step_rows}
 use Rattle.vector.specs.Threads.{task_of}
 use Rattle.vector.specs.declared.Op.{Op}
 use Rattle.vector.specs.declared.threads.Task.{Task}
 use Rattle.vector.proofs.Preparing.{from_outside}
+use Rattle.vector.proofs.Rows.{open_within, passes}
 
 -- threads go from 1, places from 0
 pub row_of_place : (rows : List Row) (t : ℕ) → 1 ≤ t → row_of rows t ≡ slice_index_or rows (t - 1) idle
@@ -22,6 +23,32 @@ pub row_kept : (rows : List Row) (t : ℕ) (row : Row) → 1 ≤ t → row_of ro
 row_kept rows t row low e =
     let h : row ≡ slice_index_or rows (t - 1) idle = sym e ∙ row_of_place rows t low in
     rw h (set-get_or rows (t - 1) idle)
+
+-- What holds where a call is granted; a table may go on after these rows.
+pub set_up_granted : (set capacity count words needed : ℕ) (zeros : Bool) → first_row (set_up_rows set capacity count words needed zeros) ≡ None
+    → (set ≡ 0) × (1 ≤ capacity) × (capacity ≤ 64) × (1 ≤ count) × (count ≤ 8) × (needed ≤ words) × (zeros ≡ true)
+set_up_granted set capacity count words needed zeros e =
+    let new = passes (ltb 0 set) 15 _ e in
+    let a = passes (outside 1 64 capacity) 10 _ new.1 in
+    let b = passes (outside 1 8 count) 11 _ a.1 in
+    let c = passes (ltb words needed) 12 _ b.1 in
+    let d = passes (not zeros) 13 [] c.1 in
+    let k = from_outside 1 64 capacity a.0 in
+    let n = from_outside 1 8 count b.0 in
+    let z = ltb-false 0 set new.0 in
+    (omega arith, k.0, k.1, n.0, n.1, ltb-false words needed c.0, not-false zeros d.0)
+
+pub begin_granted : (count t : ℕ) (busy : Bool) (rest : List (Bool × ℕ)) → first_row ((outside 1 count t, 20) ∷ (busy, 21) ∷ rest) ≡ None → (1 ≤ t) × (t ≤ count) × (busy ≡ false)
+begin_granted count t busy rest e =
+    let a = passes (outside 1 count t) 20 _ e in
+    let b = from_outside 1 count t a.0 in
+    (b.0, b.1, (passes busy 21 rest a.1).0)
+
+pub step_granted : (count t : ℕ) (busy : Bool) (rest : List (Bool × ℕ)) → first_row ((outside 1 count t, 20) ∷ (not busy, 25) ∷ rest) ≡ None → (1 ≤ t) × (t ≤ count) × (busy ≡ true)
+step_granted count t busy rest e =
+    let a = passes (outside 1 count t) 20 _ e in
+    let b = from_outside 1 count t a.0 in
+    (b.0, b.1, not-false busy (passes (not busy) 25 rest a.1).0)
 
 module _ {S : Type 0} where
   pub task_of_place : (rows : List (Option (Task S))) (t : ℕ) → 1 ≤ t → task_of rows t ≡ slice_index_or rows (t - 1) None
@@ -125,3 +152,15 @@ module _ {S : Type 0} where
         let e = ap left own in
         let h = ap (sum_by left) (take-set-lt n rows (t - 1) row l) in
         omega arith
+
+  -- some are left while something is open in the meaning
+  pub left_some : (meant : Option (Task S) → Row) → meant None ≡ idle → ((o : Option (Task S)) → is_open (meant o) ≡ is_some o)
+      → (left : Option (Task S) → ℕ) → ((o : Option (Task S)) → is_some o ≡ true → 0 < left o)
+      → (n : ℕ) (rows : List (Option (Task S))) → n ≤ length rows → (t : ℕ) → is_open (row_of (map meant (take n rows)) t) ≡ true → 0 < sum_by left (take n rows)
+  left_some meant nothing same left some n rows few t e =
+      let b = open_within (map meant (take n rows)) t e in
+      let l = count meant nothing n rows few in
+      let high : t ≤ n = omega arith in
+      let k = some (task_of rows t) (sym (opens meant nothing n rows few same t high) ∙ e) in
+      let h = left_open left n rows few t b.0 high in
+      omega arith
