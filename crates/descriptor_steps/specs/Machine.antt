@@ -1,11 +1,12 @@
 -- The descriptor vector's step table: what one step of a thread does to the shared memory, and where the thread goes on.
 -- A step accesses the memory once: it loads the current number, a status or a cell, or compares and swaps one of them.
-use Rattle.std.specs.Prelude.{ℕ, zero, suc, ◌-◌, Bool, true, false, cond, List, ◌∷◌, Some, None, Option, ◌==◌, nat_lt, slice_index_or, slice_set}
+use Rattle.std.specs.Prelude.{ℕ, zero, suc, ◌-◌, cond, List, Some, None, Option, ◌==◌, nat_lt, slice_set}
 use Rattle.vector.specs.declared.Op.{Op}
 use Rattle.vector.specs.declared.Op.TheVariants.{Push, Pop, Read, Write, Size}
 use Rattle.vector.specs.declared.Answer.TheVariants.{Position, Value, Full, Empty, Out, Done, Length}
 use Rattle.vector.specs.declared.Ended.{Ended}
 use Rattle.vector.specs.declared.Stepped.{Stepped}
+use Rattle.vector.specs.declared.threads.Task.{Task}
 use Rattle.descriptor_steps.specs.Shared.{Cell, empty, plain, frozen, Status, pending, done, final, Plan, unplanned, pushing, popping, Shared, set_cell, set_status, install, is_pending, held, position, pushed, emptied_by, size_after, value_in, same_cell, same_done}
 pub use Rattle.descriptor_steps.specs.declared.stage.Then.{Then}
 pub use Rattle.descriptor_steps.specs.declared.stage.Then.TheVariants.{Own as own, ToL1 as to_L1, ToW1 as to_W1}
@@ -13,8 +14,16 @@ pub use Rattle.descriptor_steps.specs.declared.stage.Stage.{Stage}
 pub use Rattle.descriptor_steps.specs.declared.stage.Stage.TheVariants.{L1, L2, L3, P1, L4, H1, H2, G1, G2, G3, G4, G5, G5w, G6, G7, O1, R1, R2, R3, W1, W2, W3}
 pub use Rattle.descriptor_steps.specs.declared.stage.Next.{Next}
 pub use Rattle.descriptor_steps.specs.declared.stage.Next.TheVariants.{Goto as goto, End as end}
-pub use Rattle.descriptor_steps.specs.declared.stage.Row.{Row}
-pub use Rattle.descriptor_steps.specs.declared.stage.Row.TheVariants.{Idle as idle, Open as open_at}
+
+-- A thread's row: what it has open, if anything.
+abbrev pub Row : Type 0
+Row = Option (Task Stage)
+
+abbrev pub idle : Row
+idle = None
+
+abbrev pub open_at : ℕ → Op ℕ → Stage → Row
+open_at n op g = Some (record { number = n; op = op; stage = g })
 
 -- What a step gives: the memory, where the thread goes on or what it ends with, and the number of the operation that took effect.
 pub record Res : Type 0 where
@@ -159,11 +168,6 @@ first Size = L1
 first (Read i) = R1 i
 first (Write i x) = W1 i x
 
--- Whether a row has an open operation.
-abbrev pub busy : Row → Bool
-busy idle = false
-busy (open_at n op g) = true
-
 -- A thread's row after its step, and what the step tells.
 abbrev pub row_after : ℕ → Op ℕ → Next → Row
 row_after n op (goto g) = open_at n op g
@@ -175,10 +179,6 @@ ended n (end a) = Some (record { number = n; answer = a })
 
 abbrev pub told : ℕ → Res → Stepped ℕ
 told n r = record { effect = r.served; end = ended n r.nx }
-
--- The row of a thread; threads are counted from 1, and who is no thread is idle.
-abbrev pub row_at : List Row → ℕ → Row
-row_at rows t = slice_index_or (idle ∷ rows) t idle
 
 -- The rows where thread t begins op with the next number, and after a step of thread t.
 abbrev pub rows_begun : List Row → ℕ → ℕ → Op ℕ → List Row

@@ -6,7 +6,8 @@ use Rattle.vector.specs.declared.Answer.{Answer}
 use Rattle.vector.specs.declared.Answer.TheVariants.{Position, Value, Full, Empty, Out, Length}
 use Rattle.vector.specs.declared.Stepped.{Stepped}
 use Rattle.descriptor_steps.specs.Shared.{frozen, Shared, fresh}
-use Rattle.descriptor_steps.specs.Machine.{Row, idle, open_at, Res, act, told, row_at, rows_begun, rows_stepped}
+use Rattle.vector.specs.Threads.{task_of}
+use Rattle.descriptor_steps.specs.Machine.{Row, idle, Res, act, told, rows_begun, rows_stepped}
 
 -- the shared memory, the rows, and how many numbers were given
 pub record State : Type 0 where
@@ -31,17 +32,17 @@ pub record Played : Type 0 where
   pub log : List (Stepped ℕ)
 
 abbrev pub step : State → ℕ → Row → Played
-step x t idle = record { state = x; log = [] }
-step x t (open_at n op g) =
-    let r : Res = act x.sh n op g in
-    record { state = record { sh = r.sh; rows = rows_stepped x.rows t n op r; given = x.given }; log = told n r ∷ [] }
+step x t None = record { state = x; log = [] }
+step x t (Some w) =
+    let r : Res = act x.sh w.number w.op w.stage in
+    record { state = record { sh = r.sh; rows = rows_stepped x.rows t w.number w.op r; given = x.given }; log = told w.number r ∷ [] }
 
 abbrev pub then : Played → Played → Played
 then p q = record { state = q.state; log = p.log ++ q.log }
 
 abbrev pub take_steps : ℕ → State → ℕ → Played
 take_steps zero x t = record { state = x; log = [] }
-take_steps (suc k) x t = let p : Played = step x t (row_at x.rows t) in then p (take_steps k p.state t)
+take_steps (suc k) x t = let p : Played = step x t (task_of x.rows t) in then p (take_steps k p.state t)
 
 abbrev pub play : List Call → State → Played
 play [] x = record { state = x; log = [] }

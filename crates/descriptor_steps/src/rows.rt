@@ -1,30 +1,19 @@
-// The rows of the threads, and what a step tells.
+// What a thread has open after its step, and what the step tells.
 ghost use Rattle.std.specs.Prelude.{◌≡◌};
-ghost use Rattle.descriptor_steps.specs.Machine.{busy, row_after, ended};
+ghost use Rattle.descriptor_steps.specs.Machine.{row_after, ended};
 ghost use Rattle.descriptor_steps.specs.Steps.{tells};
 
-use crate::stage::{Moved, Next, Row};
-use vector::{Ended, Op, Stepped};
-
-impl Row {
-    pub fn is_open(self) -> bool
-        ensures { result ≡ busy self }
-    {
-        match self {
-            Row::Idle => false,
-            Row::Open { .. } => true,
-        }
-    }
-}
+use crate::stage::{Moved, Next, Stage};
+use vector::{Ended, Stepped, Task};
 
 impl Next {
-    // The row of a thread that has moved.
-    pub fn row(self, number: u16, op: Op<u32>) -> Row
-        ensures { result ≡ row_after number op self }
+    // The task of a thread that has moved, if it is not over.
+    pub fn row(self, task: Task<Stage>) -> Option<Task<Stage>>
+        ensures { result ≡ row_after task.number task.op self }
     {
         match self {
-            Next::Goto(stage) => Row::Open { number, op, stage },
-            Next::End(_) => Row::Idle,
+            Next::Goto(stage) => Some(Task { stage, ..task }),
+            Next::End(_) => None,
         }
     }
 
@@ -47,13 +36,9 @@ impl Moved {
     pub fn stepped(self, number: u16) -> Stepped<u32>
         ensures { result ≡ tells number self }
     {
-        let end = self.next.end(number);
-        match self.served {
-            Some(served) => Stepped {
-                effect: Some(u32::from(served)),
-                end,
-            },
-            None => Stepped { effect: None, end },
+        Stepped {
+            effect: self.served.map(u32::from),
+            end: self.next.end(number),
         }
     }
 }

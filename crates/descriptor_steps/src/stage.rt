@@ -1,6 +1,6 @@
 // What a thread is at, and what it remembers there.
 use descriptor_words::Cell;
-use vector::{Answer, Op};
+use vector::Answer;
 
 // What an installed operation is to do: a push writes its value at a position, whose cell was emptied by an earlier
 // operation; a pop removes the value at a position.
@@ -145,15 +145,4 @@ pub struct Moved {
     pub next: Next,
     pub served: Option<u16>,
     pub plan: Option<Plan>,
-}
-
-// A thread's row.
-#[derive(Clone, Copy)]
-pub enum Row {
-    Idle,
-    Open {
-        number: u16,
-        op: Op<u32>,
-        stage: Stage,
-    },
 }

@@ -1,12 +1,12 @@
 -- The machine's memory, as the words of a memory, the plans and the capacity hold it; and when the words are those of such a memory.
-use Rattle.std.specs.Prelude.{◌≡◌, ℕ, ◌^◌, ◌<◌, ◌≤◌, true, cond, List, length, slice_index, slice_index_or}
+use Rattle.std.specs.Prelude.{◌≡◌, ℕ, ◌^◌, ◌<◌, ◌≤◌, true, cond, List, length, Some, None, slice_index, slice_index_or}
 use Rattle.vector.specs.declared.Op.{Op}
 use Rattle.vector.specs.declared.Op.TheVariants.{Push, Pop, Read, Write, Size}
 use Rattle.descriptor_words.specs.Words.{cell_word, cell_of, status_word, status_of, CellFits, StatusFits, numbered}
 use Rattle.descriptor_words.specs.Accesses.{cell_at, current_of}
 use Rattle.descriptor_steps.specs.Shared.{Cell, Status, pending, Shared}
 use Rattle.descriptor_steps.specs.Steps.{plan_of}
-use Rattle.linearization.specs.Names.{Plan, unplanned, pushing, popping, Then, own, to_L1, to_W1, Stage, L1, L2, L3, P1, L4, H1, H2, G1, G2, G3, G4, G5, G5w, G6, G7, O1, R1, R2, R3, W1, W2, W3, Next, goto, end, Row, idle, open_at}
+use Rattle.linearization.specs.Names.{Plan, unplanned, pushing, popping, Then, own, to_L1, to_W1, Stage, L1, L2, L3, P1, L4, H1, H2, G1, G2, G3, G4, G5, G5w, G6, G7, O1, R1, R2, R3, W1, W2, W3, Next, goto, end, Row}
 use Rattle.descriptor_vector.specs.Calls.{needed}
 
 -- What the words say; who has no number from 1 to 400 is pending.
@@ -82,5 +82,5 @@ OpFits capacity (Write i x) = (i < capacity) × (x < 2 ^ 32)
 OpFits capacity Size = Unit {0}
 
 abbrev pub RowFits : ℕ → Row → Type 0
-RowFits capacity idle = Unit {0}
-RowFits capacity (open_at n op g) = (numbered n ≡ true) × OpFits capacity op × StageFits capacity g
+RowFits capacity None = Unit {0}
+RowFits capacity (Some w) = (numbered w.number ≡ true) × OpFits capacity w.op × StageFits capacity w.stage

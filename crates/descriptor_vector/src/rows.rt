@@ -1,13 +1,13 @@
-// The rows of the threads, and the plans.
-ghost use Rattle.std.specs.Prelude.{◌≡◌, ◌≤◌, true};
+// Where an operation begins, and what a step leaves in the table.
+ghost use Rattle.std.specs.Prelude.{◌≡◌, true};
 ghost use Rattle.vector.specs.Plain.{index_fits, Small};
-ghost use Rattle.descriptor_steps.specs.Machine.{first, row_at};
+ghost use Rattle.descriptor_steps.specs.Machine.{first};
 ghost use Rattle.descriptor_steps.specs.Steps.{plans_after};
 ghost use Rattle.descriptor_vector.specs.Calls.{settled};
 
 use crate::table::Table;
-use descriptor_steps::{Moved, Plan, Row, Stage};
-use vector::Op;
+use descriptor_steps::{Moved, Plan, Stage};
+use vector::{Op, Task};
 
 // The first stage of an operation whose index is below the capacity.
 pub(crate) fn first_stage(capacity: u16, op: Op<u32>) -> Stage
@@ -28,17 +28,6 @@ pub(crate) fn first_stage(capacity: u16, op: Op<u32>) -> Stage
     }
 }
 
-// The row of a thread. Who is none of the eight is idle.
-pub(crate) fn row_of(rows: &[Row; 8], thread: usize) -> Row
-    ensures { result ≡ row_at rows.now thread }
-{
-    if thread > 0 && thread <= 8 {
-        rows[thread - 1]
-    } else {
-        Row::Idle
-    }
-}
-
 // The plan of a number is put down, if there is one to install.
 pub(crate) fn put_down(plans: &mut [Plan; 401], number: u16, plan: Option<Plan>)
     ensures { plans.new ≡ plans_after plans.old number plan }
@@ -51,12 +40,11 @@ pub(crate) fn put_down(plans: &mut [Plan; 401], number: u16, plan: Option<Plan>)
 }
 
 impl Table {
-    // The thread's row moves on, and the plan is put down.
-    pub(crate) fn settle(&mut self, thread: usize, number: u16, op: Op<u32>, moved: Moved)
-        requires { (1 ≤ thread) × (thread ≤ 8) }
-        ensures { self.new ≡ settled self.old thread number op moved }
+    // The thread's task moves on, and the plan is put down.
+    pub(crate) fn settle(&mut self, thread: usize, task: Task<Stage>, moved: Moved)
+        ensures { self.new ≡ settled self.old thread task.number task.op moved }
     {
-        put_down(&mut self.plans, number, moved.plan);
-        self.rows[thread - 1] = moved.next.row(number, op);
+        put_down(&mut self.plans, task.number, moved.plan);
+        self.threads.settle(thread, moved.next.row(task));
     }
 }

@@ -8,6 +8,6 @@ use memory::Memory;
 pub struct DescriptorVector<M: Memory> {
     pub(crate) memory: M,
     pub(crate) table: Table,
-    ghost few: { table.threads ≤ 8 },
-    ghost eight: { length table.rows ≡ 8 },
+    ghost few: { table.threads.count ≤ 8 },
+    ghost eight: { length table.threads.rows ≡ 8 },
 }

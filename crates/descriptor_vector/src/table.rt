@@ -1,12 +1,10 @@
-// What a descriptor vector keeps beside its memory. Before set-up the capacity is 0, there are no threads, and no number was given.
-use descriptor_steps::{Plan, Row};
+// What a descriptor vector keeps beside its memory.
+use descriptor_steps::{Plan, Stage};
+use vector::Threads;
 
-#[derive(Clone, Copy)]
+#[derive(Drop)]
 pub struct Table {
-    pub capacity: u16,
-    pub threads: usize,
-    pub rows: [Row; 8],
+    pub threads: Threads<Stage>,
     // By number; number 0 has none.
     pub plans: [Plan; 401],
-    pub given: u16,
 }

@@ -1,16 +1,17 @@
 -- The invariant holds of a fresh memory with idle threads, and is kept where an idle thread begins an operation.
-use Rattle.std.proofs.Common.{◌≡◌, ℕ, zero, suc, ◌-◌, ◌≤◌, true, List, length, set, replicate, sym, refl, ◌∙◌, inl, inr, arith}
+use Rattle.std.proofs.Common.{◌≡◌, ℕ, zero, suc, ◌-◌, ◌≤◌, true, List, length, set, replicate, sym, refl, ap, ◌∙◌, inl, inr, arith, Some, None}
 use Rattle.std.proofs.lemmas.Bool.{ltb-true}
 use Rattle.vector.specs.Plain.{index_fits}
 use Rattle.vector.specs.declared.Op.{Op}
 use Rattle.vector.specs.declared.Op.TheVariants.{Push, Pop, Read, Write, Size}
+use Rattle.vector.specs.Threads.{task_of}
 use Rattle.linearization.specs.Invariant.{Facts, RowHolds, Invariant}
 use Rattle.linearization.specs.Knowledge.{unput, Puts, Knows, Thread}
-use Rattle.descriptor_steps.specs.Machine.{first, row_at}
+use Rattle.descriptor_steps.specs.Machine.{first}
 use Rattle.descriptor_steps.specs.Shared.{Shared, fresh}
 use Rattle.linearization.specs.Names.{Stage, Row, idle, open_at, unplanned}
 use Rattle.linearization.proofs.Tests.{no_way}
-use Rattle.linearization.proofs.Threads.{at_row}
+use Rattle.linearization.proofs.Threads.{number_in, at_row}
 
 pub fresh_facts : (c : ℕ) → Facts (fresh c) (λ _ _. unput)
 fresh_facts c =
@@ -36,7 +37,7 @@ fresh_facts c =
       plan_within = λ k h. no_way (sym h);
     }
 
-all_idle : (n t : ℕ) → row_at (replicate n idle) t ≡ idle
+pub all_idle : (n t : ℕ) → task_of (replicate n idle) t ≡ idle
 all_idle n zero = refl
 all_idle zero (suc t) = refl
 all_idle (suc n) (suc zero) = refl
@@ -61,11 +62,11 @@ first_knows s put n Size u r = (u, refl)
 first_knows s put n (Read i) u r = (u, refl, ltb-true i s.cap r)
 first_knows s put n (Write i x) u r = (u, refl, ltb-true i s.cap r)
 
-module _ {s : Shared} {rows : List Row} {given : ℕ} (i : Invariant s rows given) (t : ℕ) (op : Op ℕ) (low : 1 ≤ t) (high : t ≤ length rows) (is_idle : row_at rows t ≡ idle) (fits : index_fits s.cap op ≡ true) where
-  row_later : (v : ℕ) → (w : Row) → row_at rows v ≡ w → RowHolds s i.put (suc given) w
-  row_later v idle e = tt
-  row_later v (open_at n o x) e =
-      let z : RowHolds s i.put given (open_at n o x) = rw e at (i.each_row v) in
+module _ {s : Shared} {rows : List Row} {given : ℕ} (i : Invariant s rows given) (t : ℕ) (op : Op ℕ) (low : 1 ≤ t) (high : t ≤ length rows) (is_idle : task_of rows t ≡ idle) (fits : index_fits s.cap op ≡ true) where
+  row_later : (v : ℕ) → (w : Row) → task_of rows v ≡ w → RowHolds s i.put (suc given) w
+  row_later v None e = tt
+  row_later v (Some w) e =
+      let z : RowHolds s i.put given (Some w) = rw e at (i.each_row v) in
       (z.0, let q = z.1 in omega arith)
 
   abbrev new_row : Row
@@ -80,7 +81,7 @@ module _ {s : Shared} {rows : List Row} {given : ℕ} (i : Invariant s rows give
       }
 
   -- the new number is no open one
-  was_given : (v n : ℕ) (o : Op ℕ) (x : Stage) → row_at rows v ≡ open_at n o x → n ≤ given
+  was_given : (v n : ℕ) (o : Op ℕ) (x : Stage) → task_of rows v ≡ open_at n o x → n ≤ given
   was_given v n o x e = let z : RowHolds s i.put given (open_at n o x) = rw e at (i.each_row v) in z.1
 
   pub begin_invariant : Invariant s (set rows (t - 1) (open_at (suc given) op (first op))) (suc given)
@@ -88,14 +89,14 @@ module _ {s : Shared} {rows : List Row} {given : ℕ} (i : Invariant s rows give
       record {
         put = i.put;
         facts = i.facts;
-        each_row = λ v. elim (at_row rows t new_row low high v) [ inl e ↦ let q = e.1 in rw q (new_thread, omega arith) | inr e ↦ let q = e.1 in rw q (row_later v (row_at rows v) refl) ];
+        each_row = λ v. elim (at_row rows t new_row low high v) [ inl e ↦ let q = e.1 in rw q (new_thread, omega arith) | inr e ↦ let q = e.1 in rw q (row_later v (task_of rows v) refl) ];
         apart = λ v u k o o' y y' h h'. elim (at_row rows t new_row low high v) [
           | inl e ↦ elim (at_row rows t new_row low high u) [
             | inl d ↦ cc
-            | inr d ↦ let b = was_given u k o' y' (cc) in let q : k ≡ suc given = cc in absurd (omega arith)
+            | inr d ↦ let b = was_given u k o' y' (cc) in let q : k ≡ suc given = ap number_in (sym h ∙ e.1) in absurd (omega arith)
           ]
           | inr e ↦ elim (at_row rows t new_row low high u) [
-            | inl d ↦ let b = was_given v k o y (cc) in let q : k ≡ suc given = cc in absurd (omega arith)
+            | inl d ↦ let b = was_given v k o y (cc) in let q : k ≡ suc given = ap number_in (sym h' ∙ d.1) in absurd (omega arith)
             | inr d ↦ i.apart v u k o o' y y' (cc) (cc)
           ]
         ];

@@ -1,6 +1,6 @@
 -- Every step is one of the plain vector: at most one waiting operation takes effect, as the plain vector takes it, and the
 -- stepping thread may end with the answer kept.
-use Rattle.std.proofs.Common.{◌≡◌, ℕ, ◌-◌, ◌≤◌, true, ◌≢◌, List, map, length, set, sym, refl, ap, ◌∙◌, inl, inr, arith}
+use Rattle.std.proofs.Common.{◌≡◌, ℕ, ◌-◌, ◌≤◌, true, ◌≢◌, List, map, length, set, sym, refl, ap, ◌∙◌, inl, inr, arith, Some, None}
 use Rattle.std.proofs.lemmas.List.{length-map, length-set}
 use Rattle.std.proofs.lemmas.Bool.{cases_eq}
 use Rattle.vector.proofs.Rows.{row_set_same, row_set_other}
@@ -9,9 +9,10 @@ use Rattle.vector.specs.Meaning.{waiting, served, Meaning, row_of, Row as Meant,
 use Rattle.vector.specs.Plain.{answer, after}
 use Rattle.vector.specs.declared.Op.{Op}
 use Rattle.vector.specs.declared.Op.TheVariants.{Pop}
+use Rattle.vector.specs.Threads.{task_of}
 use Rattle.linearization.specs.Invariant.{Invariant}
 use Rattle.linearization.specs.Knowledge.{Puts, is_planned, op_of, Helping, Knows}
-use Rattle.descriptor_steps.specs.Machine.{Res, serving, act, row_after, told, row_at}
+use Rattle.descriptor_steps.specs.Machine.{Res, serving, act, row_after, told}
 use Rattle.linearization.specs.Meaning.{items, meant_of, meant, meaning}
 use Rattle.descriptor_steps.specs.Shared.{Shared, is_pop}
 use Rattle.linearization.specs.Names.{Then, own, to_L1, to_W1, Stage, L1, L2, L3, P1, L4, H1, H2, G1, G2, G3, G4, G5, G5w, G6, G7, O1, R1, R2, R3, W1, W2, W3, goto, Row, idle, open_at, Plan, unplanned, pushing, popping}
@@ -59,13 +60,13 @@ own_op s put n op (W3 i x w) h p = let z = h.0 in no_way (cc)
 
 -- rows mean the same where each number does
 rows_same : (s s' : Shared) → ((k : ℕ) (o : Op ℕ) → meant_of s' k o ≡ meant_of s k o) → (r : Row) → meant s' r ≡ meant s r
-rows_same s s' h idle = refl
-rows_same s s' h (open_at n op x) = h n op
+rows_same s s' h None = refl
+rows_same s s' h (Some w) = h w.number w.op
 
 same_parts : (c c' : ℕ) (xs xs' : List ℕ) (rs rs' : List Meant) (g : ℕ) → c ≡ c' → xs ≡ xs' → rs ≡ rs' → ◌≡◌ {A = Meaning} (record { capacity = c; items = xs; rows = rs; given = g }) (record { capacity = c'; items = xs'; rows = rs'; given = g })
 same_parts c c' xs xs' rs rs' g a b d = rw (a, b, d)
 
-module _ {s : Shared} {rows : List Row} {given : ℕ} (i : Invariant s rows given) (t n : ℕ) (op : Op ℕ) (x : Stage) (is_row : row_at rows t ≡ open_at n op x) where
+module _ {s : Shared} {rows : List Row} {given : ℕ} (i : Invariant s rows given) (t n : ℕ) (op : Op ℕ) (x : Stage) (is_row : task_of rows t ≡ open_at n op x) where
   within : (1 ≤ t) × (t ≤ length rows)
   within = open_thread rows t n op x is_row
 
@@ -81,15 +82,15 @@ module _ {s : Shared} {rows : List Row} {given : ℕ} (i : Invariant s rows give
   own_meant s' r =
       elim (at_row rows t r within.0 within.1 t) [ inl e ↦ row_meant s' (set rows (t - 1) r) t ∙ ap (meant s') e.1 | inr e ↦ absurd (e.0 refl) ]
 
-  other_meant : (s' : Shared) (r : Row) (v : ℕ) → v ≢ t → row_of (map (meant s') (set rows (t - 1) r)) v ≡ meant s' (row_at rows v)
+  other_meant : (s' : Shared) (r : Row) (v : ℕ) → v ≢ t → row_of (map (meant s') (set rows (t - 1) r)) v ≡ meant s' (task_of rows v)
   other_meant s' r v ne =
       elim (at_row rows t r within.0 within.1 v) [ inl e ↦ absurd (ne e.0) | inr e ↦ row_meant s' (set rows (t - 1) r) v ∙ ap (meant s') e.1 ]
 
   -- a thread that goes on means what it meant
-  goes_on : (s' : Shared) (y : Stage) (v : ℕ) → row_of (map (meant s') (set rows (t - 1) (open_at n op y))) v ≡ meant s' (row_at rows v)
+  goes_on : (s' : Shared) (y : Stage) (v : ℕ) → row_of (map (meant s') (set rows (t - 1) (open_at n op y))) v ≡ meant s' (task_of rows v)
   goes_on s' y v =
       elim (cases_eq v t) [
-        | inl e ↦ let a = own_meant s' (open_at n op y) in let b : meant s' (row_at rows t) ≡ meant_of s' n op = ap (meant s') is_row in rw e (a ∙ sym b)
+        | inl e ↦ let a = own_meant s' (open_at n op y) in let b : meant s' (task_of rows t) ≡ meant_of s' n op = ap (meant s') is_row in rw e (a ∙ sym b)
         | inr e ↦ other_meant s' (open_at n op y) v e
       ]
 
@@ -98,10 +99,10 @@ module _ {s : Shared} {rows : List Row} {given : ℕ} (i : Invariant s rows give
       (meaning s rows given, refl, same_parts s'.cap s.cap (items s') (items s) (map (meant s') (set rows (t - 1) (open_at n op y))) (map (meant s) rows) given ch.follows.caps sa.1 same)
     where
       same : map (meant s') (set rows (t - 1) (open_at n op y)) ≡ map (meant s) rows
-      same = same_rows (map (meant s') (set rows (t - 1) (open_at n op y))) (map (meant s) rows) (many s' (open_at n op y)) (λ v. goes_on s' y v ∙ rows_same s s' sa.0 (row_at rows v) ∙ sym (row_meant s rows v))
+      same = same_rows (map (meant s') (set rows (t - 1) (open_at n op y))) (map (meant s) rows) (many s' (open_at n op y)) (λ v. goes_on s' y v ∙ rows_same s s' sa.0 (task_of rows v) ∙ sym (row_meant s rows v))
   moves_by r (helps {s'} {put'} {x = y} {c} a ch p f w v k tk l) = owner (i.owned c p f)
     where
-      owner : (u : ℕ) × (o : Op ℕ) × (z : Stage) × (row_at rows u ≡ open_at c o z) → Moves (meaning s rows given) t (told n (serving s' c (goto y))) (meaning s' (set rows (t - 1) (open_at n op y)) given)
+      owner : (u : ℕ) × (o : Op ℕ) × (z : Stage) × (task_of rows u ≡ open_at c o z) → Moves (meaning s rows given) t (told n (serving s' c (goto y))) (meaning s' (set rows (t - 1) (open_at n op y)) given)
       owner q = (
         taken (meaning s rows given) q.0 q.1 c,
         (q.0, q.1, row_meant s rows q.0 ∙ ap (meant s) q.3 ∙ w q.1, refl),
@@ -115,9 +116,9 @@ module _ {s : Shared} {rows : List Row} {given : ℕ} (i : Invariant s rows give
               let e = own_op s i.put c q.1 q.2 lo.0.here p in
               rw e tk
 
-          others : (b : ℕ) → b ≢ q.0 → (r : Row) → row_at rows b ≡ r → meant s' (row_at rows b) ≡ meant s (row_at rows b)
-          others b ne idle h = rw h
-          others b ne (open_at d o z) h = rw h (k d o (λ m. ne (i.apart b q.0 c o q.1 z q.2 (cc) q.3)))
+          others : (b : ℕ) → b ≢ q.0 → (r : Row) → task_of rows b ≡ r → meant s' (task_of rows b) ≡ meant s (task_of rows b)
+          others b ne None h = rw h
+          others b ne (Some w) h = rw h (k w.number w.op (λ m. ne (i.apart b q.0 c w.op q.1 w.stage q.2 (h ∙ ap (λ d. open_at d w.op w.stage) m) q.3)))
 
           same : map (meant s') (set rows (t - 1) (open_at n op y)) ≡ set (map (meant s) rows) (q.0 - 1) (served q.1 c (answer s.cap (items s) q.1))
           same =
@@ -126,7 +127,7 @@ module _ {s : Shared} {rows : List Row} {given : ℕ} (i : Invariant s rows give
               let e = plain_op.0 in
               is_set no_operation (map (meant s) rows) (map (meant s') (set rows (t - 1) (open_at n op y))) q.0 (served q.1 c (answer s.cap (items s) q.1)) u.0 (omega arith) (many s' (open_at n op y))
               (goes_on s' y q.0 ∙ ap (meant s') q.3 ∙ v q.1 ∙ ap (served q.1 c) (sym e))
-              (λ b ne. goes_on s' y b ∙ others b ne (row_at rows b) refl ∙ sym (row_meant s rows b))
+              (λ b ne. goes_on s' y b ∙ others b ne (task_of rows b) refl ∙ sym (row_meant s rows b))
   moves_by r (ends {s'} {put'} {a} ch sa m f) = (
     meaning s rows given,
     refl,
@@ -138,7 +139,7 @@ module _ {s : Shared} {rows : List Row} {given : ℕ} (i : Invariant s rows give
           let z = length-map rows (meant s) in
           let h = within.1 in
           is_set no_operation (map (meant s) rows) (map (meant s') (set rows (t - 1) idle)) t no_operation within.0 (omega arith) (many s' idle) (own_meant s' idle)
-          (λ v ne. other_meant s' idle v ne ∙ rows_same s s' sa.0 (row_at rows v) ∙ sym (row_meant s rows v))
+          (λ v ne. other_meant s' idle v ne ∙ rows_same s s' sa.0 (task_of rows v) ∙ sym (row_meant s rows v))
   moves_by r (ends_now {s'} {put'} {a} ch k u u' tk) = (
     taken (meaning s rows given) t op n,
     (t, op, row_meant s rows t ∙ ap (meant s) is_row ∙ waits, refl),
@@ -159,7 +160,7 @@ module _ {s : Shared} {rows : List Row} {given : ℕ} (i : Invariant s rows give
           let z = length-set (map (meant s) rows) (t - 1) mid in
           let h = high in
           is_set no_operation (set (map (meant s) rows) (t - 1) mid) (map (meant s') (set rows (t - 1) idle)) t no_operation within.0 (omega arith) (many s' idle ∙ sym z) (own_meant s' idle)
-          (λ v ne. other_meant s' idle v ne ∙ rows_same s s' k (row_at rows v) ∙ sym (row_meant s rows v) ∙ sym (row_set_other (map (meant s) rows) t v mid within.0 ne))
+          (λ v ne. other_meant s' idle v ne ∙ rows_same s s' k (task_of rows v) ∙ sym (row_meant s rows v) ∙ sym (row_set_other (map (meant s) rows) t v mid within.0 ne))
 
   pub step_moves : Moves (meaning s rows given) t (told n (act s n op x)) (meaning (act s n op x).sh (set rows (t - 1) (row_after n op (act s n op x).nx)) given)
   step_moves = moves_by (act s n op x) (outcome i.facts n op x (row_thread i t n op x is_row).0)

@@ -1,10 +1,11 @@
 -- The rows of the threads, counted from 1, as a list: one row set, and what the rows mean.
-use Rattle.std.proofs.Common.{◌≡◌, ℕ, zero, suc, ◌-◌, ◌<◌, ◌≤◌, ◌≢◌, ◌⊎◌, List, [], ◌∷◌, map, length, get_or, set, sym, refl, ap, ◌∙◌, subst, inl, inr, arith}
+use Rattle.std.proofs.Common.{◌≡◌, ℕ, zero, suc, ◌-◌, ◌<◌, ◌≤◌, ◌≢◌, ◌⊎◌, List, [], ◌∷◌, map, length, get_or, set, Some, None, sym, refl, ap, ◌∙◌, subst, inl, inr, arith}
 use Rattle.std.proofs.lemmas.List.{length-set, get_or-set_same, get_or-set_other}
 use Rattle.std.proofs.lemmas.Bool.{cases_eq}
 use Rattle.vector.specs.Meaning.{row_of, Row as Meant, idle as no_operation}
 use Rattle.vector.specs.declared.Op.{Op}
-use Rattle.descriptor_steps.specs.Machine.{row_at}
+use Rattle.vector.specs.Threads.{task_of}
+use Rattle.vector.proofs.Tasks.{row_means}
 use Rattle.linearization.specs.Meaning.{meant}
 use Rattle.descriptor_steps.specs.Shared.{Shared}
 use Rattle.linearization.specs.Names.{Stage, Row, idle, open_at}
@@ -41,19 +42,21 @@ pub same_rows : (xs ys : List Meant) → length xs ≡ length ys → ((t : ℕ) 
 same_rows xs ys l h = same_places no_operation xs ys l (λ i. h (suc i))
 
 -- a row set is seen by its own thread alone
-pub at_row : (rows : List Row) (t : ℕ) (r : Row) → 1 ≤ t → t ≤ length rows → (u : ℕ) → ((u ≡ t) × (row_at (set rows (t - 1) r) u ≡ r)) ⊎ ((u ≢ t) × (row_at (set rows (t - 1) r) u ≡ row_at rows u))
+pub at_row : (rows : List Row) (t : ℕ) (r : Row) → 1 ≤ t → t ≤ length rows → (u : ℕ) → ((u ≡ t) × (task_of (set rows (t - 1) r) u ≡ r)) ⊎ ((u ≢ t) × (task_of (set rows (t - 1) r) u ≡ task_of rows u))
 at_row = at_place idle
 
+-- the number of what is open
+abbrev pub number_in : Row → ℕ
+number_in None = 0
+number_in (Some w) = w.number
+
 -- who has an open row is a thread
-pub open_thread : (rows : List Row) (t n : ℕ) (op : Op ℕ) (g : Stage) → row_at rows t ≡ open_at n op g → (1 ≤ t) × (t ≤ length rows)
+pub open_thread : (rows : List Row) (t n : ℕ) (op : Op ℕ) (g : Stage) → task_of rows t ≡ open_at n op g → (1 ≤ t) × (t ≤ length rows)
 open_thread rows zero n op g h = no_way (cc)
 open_thread [] (suc t) n op g h = no_way (cc)
 open_thread (r ∷ rows) (suc zero) n op g h = (omega arith, omega arith)
 open_thread (r ∷ rows) (suc (suc t)) n op g h = let z = open_thread rows (suc t) n op g h in (omega arith, omega arith)
 
 -- a thread's row means what its place in the meaning says
-pub row_meant : (s : Shared) (rows : List Row) (t : ℕ) → row_of (map (meant s) rows) t ≡ meant s (row_at rows t)
-row_meant s rows zero = refl
-row_meant s [] (suc t) = refl
-row_meant s (r ∷ rows) (suc zero) = refl
-row_meant s (r ∷ rows) (suc (suc t)) = row_meant s rows (suc t)
+pub row_meant : (s : Shared) (rows : List Row) (t : ℕ) → row_of (map (meant s) rows) t ≡ meant s (task_of rows t)
+row_meant s = row_means (meant s) refl

@@ -1,9 +1,9 @@
 -- What holds between any two steps: of the shared memory, of each thread, and of the numbers given.
-use Rattle.std.specs.Prelude.{◌≡◌, ℕ, ◌<◌, ◌≤◌, Bool, true, false, ◌≢◌, ◌⊎◌, List}
+use Rattle.std.specs.Prelude.{◌≡◌, ℕ, ◌<◌, ◌≤◌, Bool, true, false, ◌≢◌, ◌⊎◌, List, Some, None}
 use Rattle.vector.specs.declared.Op.{Op}
+use Rattle.vector.specs.Threads.{task_of}
 use Rattle.descriptor_steps.specs.Shared.{Cell, empty, plain, frozen, pending, done, Shared, is_pending, is_final, is_push, is_pop, position, emptied_by}
-use Rattle.descriptor_steps.specs.Machine.{row_at}
-use Rattle.linearization.specs.Names.{unplanned, Stage, Row, idle, open_at}
+use Rattle.linearization.specs.Names.{unplanned, Stage, Row, open_at}
 use Rattle.linearization.specs.Meaning.{size_now}
 use Rattle.linearization.specs.Knowledge.{unput, early, late, Puts, WasPut, is_done, is_planned, Final, Thread}
 
@@ -55,19 +55,19 @@ pub record Facts (s : Shared) (put : Puts) : Type 0 where
 
 -- A row is idle, or its thread knows what its stage says, and its number was given.
 abbrev pub RowHolds : Shared → Puts → ℕ → Row → Type 0
-RowHolds s put given idle = Unit {0}
-RowHolds s put given (open_at n op g) = Thread s put n op g × (n ≤ given)
+RowHolds s put given None = Unit {0}
+RowHolds s put given (Some w) = Thread s put w.number w.op w.stage × (w.number ≤ given)
 
 -- The whole invariant, over the rows of the threads and how many numbers were given.
 pub record Invariant (s : Shared) (rows : List Row) (given : ℕ) : Type 0 where
   -- which words were ever put: known to the proof alone
   pub put : Puts
   pub facts : Facts s put
-  pub each_row : (t : ℕ) → RowHolds s put given (row_at rows t)
+  pub each_row : (t : ℕ) → RowHolds s put given (task_of rows t)
   -- different threads have different numbers
-  pub apart : (t u n : ℕ) (op op' : Op ℕ) (g g' : Stage) → row_at rows t ≡ open_at n op g → row_at rows u ≡ open_at n op' g' → t ≡ u
+  pub apart : (t u n : ℕ) (op op' : Op ℕ) (g g' : Stage) → task_of rows t ≡ open_at n op g → task_of rows u ≡ open_at n op' g' → t ≡ u
   -- an installed operation that is not final is still open
-  pub owned : (k : ℕ) → is_planned (s.plan k) ≡ true → is_final (s.status k) ≡ false → (t : ℕ) × (op : Op ℕ) × (g : Stage) × (row_at rows t ≡ open_at k op g)
+  pub owned : (k : ℕ) → is_planned (s.plan k) ≡ true → is_final (s.status k) ≡ false → (t : ℕ) × (op : Op ℕ) × (g : Stage) × (task_of rows t ≡ open_at k op g)
   -- a number not yet given is not installed, and no word was put through it
   pub plan_later : (k : ℕ) → given < k → s.plan k ≡ unplanned
   pub put_later : (c j : ℕ) → given < j → put c j ≡ unput

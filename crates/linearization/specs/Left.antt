@@ -1,7 +1,7 @@
 -- How many steps a thread takes at most, while it is the only one that is open.
-use Rattle.std.specs.Prelude.{ℕ, ◌+◌, max, Bool, cond, List, [], ◌∷◌, ◌==◌}
+use Rattle.std.specs.Prelude.{ℕ, ◌+◌, max, Bool, cond, List, [], ◌∷◌, Some, None, ◌==◌}
 use Rattle.descriptor_steps.specs.Shared.{Cell, frozen, Shared, position, same_cell}
-use Rattle.linearization.specs.Names.{Then, own, to_L1, to_W1, Stage, L1, L2, L3, P1, L4, H1, H2, G1, G2, G3, G4, G5, G5w, G6, G7, O1, R1, R2, R3, W1, W2, W3, Row, idle, open_at}
+use Rattle.linearization.specs.Names.{Then, own, to_L1, to_W1, Stage, L1, L2, L3, P1, L4, H1, H2, G1, G2, G3, G4, G5, G5w, G6, G7, O1, R1, R2, R3, W1, W2, W3, Row}
 
 -- what is left when help is over
 abbrev pub rest : Then → ℕ
@@ -39,8 +39,8 @@ rank s (W2 i x a k j) = cond (same_cell (s.cell i) (frozen a k j)) 2 5
 rank s (W3 i x w) = cond (same_cell (s.cell i) w) 1 4
 
 abbrev pub row_rank : Shared → Row → ℕ
-row_rank s idle = 0
-row_rank s (open_at n op g) = rank s g
+row_rank s None = 0
+row_rank s (Some w) = rank s w.stage
 
 -- The steps left: the largest rank of a thread.
 abbrev pub left : Shared → List Row → ℕ

@@ -4,8 +4,9 @@ use Rattle.vector.specs.declared.Op.{Op}
 use Rattle.vector.specs.Plain.{index_fits}
 use Rattle.vector.specs.Meaning.{Alone}
 use Rattle.vector.specs.Calls.{set_up, begun, Moves}
+use Rattle.vector.specs.Threads.{task_of}
 use Rattle.descriptor_steps.specs.Shared.{Shared, fresh}
-use Rattle.descriptor_steps.specs.Machine.{act, told, row_at, rows_begun, rows_stepped}
+use Rattle.descriptor_steps.specs.Machine.{act, told, rows_begun, rows_stepped}
 use Rattle.linearization.specs.Names.{Stage, Row, idle, open_at}
 use Rattle.linearization.specs.Meaning.{meant, meaning}
 use Rattle.linearization.specs.Left.{left}
@@ -20,7 +21,7 @@ Starts =
 abbrev pub BeginsSo : Type 0
 BeginsSo =
     (s : Shared) (rows : List Row) (given t : ℕ) (op : Op ℕ)
-    → Invariant s rows given → 1 ≤ t → t ≤ length rows → row_at rows t ≡ idle → index_fits s.cap op ≡ true
+    → Invariant s rows given → 1 ≤ t → t ≤ length rows → task_of rows t ≡ idle → index_fits s.cap op ≡ true
     → Invariant s (rows_begun rows given t op) (suc given) × (meaning s (rows_begun rows given t op) (suc given) ≡ begun (meaning s rows given) t op)
 
 -- Where an open thread steps, the invariant is kept; at most one waiting operation takes effect, as the plain vector takes it, and
@@ -28,7 +29,7 @@ BeginsSo =
 abbrev pub StepsSo : Type 0
 StepsSo =
     (s : Shared) (rows : List Row) (given t n : ℕ) (op : Op ℕ) (g : Stage)
-    → Invariant s rows given → row_at rows t ≡ open_at n op g
+    → Invariant s rows given → task_of rows t ≡ open_at n op g
     → Invariant (act s n op g).sh (rows_stepped rows t n op (act s n op g)) given
     × Moves (meaning s rows given) t (told n (act s n op g)) (meaning (act s n op g).sh (rows_stepped rows t n op (act s n op g)) given)
     × (Alone (map (meant s) rows) t → left (act s n op g).sh (rows_stepped rows t n op (act s n op g)) < left s rows)

@@ -1,11 +1,11 @@
 -- What a descriptor vector means: which installed operations have taken effect, the plain vector, and each thread's row.
-use Rattle.std.specs.Prelude.{ℕ, zero, suc, Bool, true, false, cond, not, ◌&&◌, List, [], ◌∷◌, ◌++◌, map}
+use Rattle.std.specs.Prelude.{ℕ, zero, suc, Bool, true, false, cond, not, ◌&&◌, List, [], ◌∷◌, ◌++◌, map, Some, None}
 use Rattle.vector.specs.declared.Op.{Op}
 use Rattle.vector.specs.declared.Answer.{Answer}
 use Rattle.vector.specs.declared.Answer.TheVariants.{Position, Value, Out}
 use Rattle.vector.specs.Meaning.{Row as Meant, idle as no_operation, waiting, served, Meaning}
 use Rattle.descriptor_steps.specs.Shared.{Cell, empty, Status, Shared, is_pending, held, position, value_in, same_cell}
-use Rattle.linearization.specs.Names.{Plan, unplanned, pushing, popping, Row, idle, open_at}
+use Rattle.linearization.specs.Names.{Plan, unplanned, pushing, popping, Row}
 
 -- An installed push has taken effect once it is not pending or its cell is no more as it found it; a pop, once it is not pending.
 abbrev pub effected : Plan → Status → Cell → Bool
@@ -46,8 +46,8 @@ abbrev pub meant_of : Shared → ℕ → Op ℕ → Meant
 meant_of s n op = cond (took_effect s n) (served op n (answer_of (s.plan n) (s.status n))) (waiting op n)
 
 abbrev pub meant : Shared → Row → Meant
-meant s idle = no_operation
-meant s (open_at n op g) = meant_of s n op
+meant s None = no_operation
+meant s (Some w) = meant_of s w.number w.op
 
 abbrev pub meaning : Shared → List Row → ℕ → Meaning
 meaning s rows given = record { capacity = s.cap; items = items s; rows = map (meant s) rows; given = given }

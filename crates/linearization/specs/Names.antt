@@ -7,5 +7,4 @@ pub use Rattle.descriptor_steps.specs.declared.stage.Stage.{Stage}
 pub use Rattle.descriptor_steps.specs.declared.stage.Stage.TheVariants.{L1, L2, L3, P1, L4, H1, H2, G1, G2, G3, G4, G5, G5w, G6, G7, O1, R1, R2, R3, W1, W2, W3}
 pub use Rattle.descriptor_steps.specs.declared.stage.Next.{Next}
 pub use Rattle.descriptor_steps.specs.declared.stage.Next.TheVariants.{Goto as goto, End as end}
-pub use Rattle.descriptor_steps.specs.declared.stage.Row.{Row}
-pub use Rattle.descriptor_steps.specs.declared.stage.Row.TheVariants.{Idle as idle, Open as open_at}
+pub use Rattle.descriptor_steps.specs.Machine.{Row, idle, open_at}
