@@ -1,5 +1,5 @@
 -- The step table over words: what each stage asks of the memory, and where what it finds leads.
-use Rattle.std.specs.Prelude.{ℕ, Bool, true, false, cond, List, Some, None, Option, slice_index_or, slice_set}
+use Rattle.std.specs.Prelude.{ℕ, Bool, true, false, cond, replicate, Some, None, Option, slice_index_or, slice_set}
 use Rattle.memory.specs.declared.Swapped.TheVariants.{Yes, No}
 use Rattle.descriptor_words.specs.declared.access.Access.{Access}
 use Rattle.descriptor_words.specs.declared.access.Access.TheVariants.{LoadCurrent, LoadStatus, LoadCell, SwapCurrent, SwapStatus, SwapCell}
@@ -9,12 +9,19 @@ use Rattle.vector.specs.declared.Op.{Op}
 use Rattle.vector.specs.declared.Answer.TheVariants.{Done}
 use Rattle.vector.specs.declared.Stepped.{Stepped}
 use Rattle.descriptor_steps.specs.declared.stage.Moved.{Moved}
+use Rattle.descriptor_steps.specs.declared.stage.Plans.{Plans}
 use Rattle.descriptor_steps.specs.Shared.{Cell, empty, plain, frozen, Status, pending, done, final, Plan, unplanned, Shared, position, pushed, emptied_by, value_in}
 use Rattle.descriptor_steps.specs.Machine.{Stage, L1, L2, L3, P1, L4, H1, H2, G1, G2, G3, G4, G5, G5w, G6, G7, O1, R1, R2, R3, W1, W2, W3, Next, goto, end, own, help, go_on, Res, act, ended}
 
--- The plan of a number.
-abbrev pub plan_of : List Plan → ℕ → Plan
-plan_of plans k = slice_index_or plans k unplanned
+-- No number has a plan; the plan of a number; and with another plan of number n.
+abbrev pub no_plans : Plans
+no_plans = record { by_number = replicate 401 unplanned }
+
+abbrev pub plan_of : Plans → ℕ → Plan
+plan_of plans k = slice_index_or plans.by_number k unplanned
+
+abbrev pub with_plan : Plans → ℕ → Plan → Plans
+with_plan plans n p = record { by_number = slice_set plans.by_number n p }
 
 -- The one access of a stage, of the operation with number n.
 abbrev pub access : (ℕ → Plan) → ℕ → Stage → Access
@@ -68,7 +75,7 @@ took (found.Swap Yes) = true
 took (found.Swap No) = false
 
 -- All that a stage that loads sees of the memory: what it found stands at every place.
-abbrev pub seen : List Plan → ℕ → Found → Shared
+abbrev pub seen : Plans → ℕ → Found → Shared
 seen plans capacity f =
     record { cur = number_found f; status = λ _. status_found f; cell = λ _. cell_found f; plan = plan_of plans; cap = capacity }
 
@@ -111,9 +118,9 @@ leads s took n op (W2 i x a k j) = moved (act s n op (W2 i x a k j))
 leads s took n op (W3 i x w) = cond took (serves n (end Done)) (to (goto (W1 i x)))
 
 -- The plans after a step.
-abbrev pub plans_after : List Plan → ℕ → Option Plan → List Plan
+abbrev pub plans_after : Plans → ℕ → Option Plan → Plans
 plans_after plans n None = plans
-plans_after plans n (Some p) = slice_set plans n p
+plans_after plans n (Some p) = with_plan plans n p
 
 -- What a step tells.
 abbrev pub tells : ℕ → Moved → Stepped ℕ

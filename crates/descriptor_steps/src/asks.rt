@@ -3,9 +3,9 @@ ghost use Rattle.std.specs.Prelude.{◌≡◌};
 ghost use Rattle.descriptor_steps.specs.Shared.{value_in, empty, plain, frozen, position, pushed, emptied_by};
 ghost use Rattle.descriptor_steps.specs.Steps.{access, plan_of};
 
-use crate::plans::planned;
-use crate::stage::{Plan, Stage};
+use crate::stage::{Plan, Plans, Stage};
 use descriptor_words::{Access, Cell, Status};
+use vector::Task;
 
 // The value in a cell.
 pub(crate) fn value_of(cell: Cell) -> u32
@@ -18,6 +18,7 @@ pub(crate) fn value_of(cell: Cell) -> u32
     }
 }
 
+// Accesses by name: written out, most would take five lines, and the table of stages would not fit one function.
 fn load_status(number: u16) -> Access
     ensures { result ≡ Access.LoadStatus number }
 {
@@ -67,24 +68,24 @@ fn empty_out(at: u16, value: u32, by: u16, through: u16) -> Access
     swap_cell(at, Cell::Frozen { value, by, through }, Cell::Empty { by })
 }
 
-// The one access of a stage, for the operation with a number.
-pub fn access_at(plans: &[Plan; 401], number: u16, stage: Stage) -> Access
-    ensures { result ≡ access (plan_of plans.now) number stage }
+// The one access of a task's stage.
+pub fn access_at(plans: &Plans, task: Task<Stage>) -> Access
+    ensures { result ≡ access (plan_of plans.now) task.number task.stage }
 {
-    match stage {
+    match task.stage {
         Stage::L1 | Stage::L3 { .. } => Access::LoadCurrent,
         Stage::L2 { current } => load_status(current),
         Stage::P1 { position, .. } => load_cell(position),
         Stage::L4 { current, .. } => Access::SwapCurrent {
             old: current,
-            new: number,
+            new: task.number,
         },
-        Stage::H1 { helped, .. } => fill(planned(plans, helped)),
+        Stage::H1 { helped, .. } => fill(plans.of(helped)),
         Stage::H2 { helped, .. } => swap_status(helped, Status::Pending, Status::Final(0)),
-        Stage::G1 { helped, .. } => load_cell(planned(plans, helped).position()),
+        Stage::G1 { helped, .. } => load_cell(plans.of(helped).position()),
         Stage::G2 { by, .. } | Stage::R2 { by, .. } | Stage::W2 { by, .. } => load_status(by),
         Stage::G3 { helped, seen, .. } => {
-            freeze(planned(plans, helped).position(), seen, helped, number)
+            freeze(plans.of(helped).position(), seen, helped, task.number)
         }
         Stage::G4 { helped, value, .. } => {
             swap_status(helped, Status::Pending, Status::Done(value))
@@ -95,11 +96,11 @@ pub fn access_at(plans: &[Plan; 401], number: u16, stage: Stage) -> Access
             value,
             through,
             ..
-        } => { empty_out(planned(plans, helped).position(), value, helped, through) }
+        } => { empty_out(plans.of(helped).position(), value, helped, through) }
         Stage::G7 { helped, popped, .. } => {
             swap_status(helped, Status::Done(popped), Status::Final(popped))
         }
-        Stage::O1 => load_status(number),
+        Stage::O1 => load_status(task.number),
         Stage::R1 { index } | Stage::R3 { index, .. } | Stage::W1 { index, .. } => load_cell(index),
         Stage::W3 { index, value, seen } => swap_cell(index, seen, Cell::Plain(value)),
     }

@@ -35,9 +35,5 @@ pub(crate) fn cell_in(found: Found) -> Cell
 pub(crate) fn took_place(found: Found) -> bool
     ensures { result ≡ took found }
 {
-    match found {
-        Found::Swap(Swapped::Yes) => true,
-        Found::Swap(Swapped::No) => false,
-        Found::Number(_) | Found::Status(_) | Found::Cell(_) => false,
-    }
+    matches!(found, Found::Swap(Swapped::Yes))
 }

@@ -15,4 +15,4 @@ mod swaps;
 pub use asks::access_at;
 pub use leads::lead;
 pub use played::played_runs;
-pub use stage::{Moved, Next, Plan, Stage, Then};
+pub use stage::{Moved, Next, Plan, Plans, Stage, Then};

@@ -1,10 +1,11 @@
 // Where a stage that loads leads, from the number, the status or the cell that it finds.
 ghost use Rattle.std.specs.Prelude.{◌≡◌, ℕ, cond, ◌==◌};
 ghost use Rattle.vector.specs.declared.Answer.TheVariants.{Value};
-ghost use Rattle.descriptor_steps.specs.Shared.{Shared, frozen, held, same_cell};
+ghost use Rattle.descriptor_steps.specs.Shared.{Shared, frozen, held, same_cell, value_in};
 ghost use Rattle.descriptor_steps.specs.Machine.{on_L1, on_L2, on_P1, on_G1, on_G2, on_G5, on_G5w, on_R1, on_R2, on_W1, on_W2, quiet, serving, goto, end};
 ghost use Rattle.descriptor_steps.specs.Steps.{moved};
 
+use crate::asks::value_of;
 use crate::moves::{answer, chosen, go_to, helped_out, helping};
 use crate::stage::{Moved, Next, Plan, Stage, Then};
 use descriptor_words::{Cell, Status};
@@ -173,26 +174,14 @@ pub(crate) fn after_r2(
     }
 }
 
-// R3 answers the value if the same frozen word still stands, and else goes on as R1 does.
-pub(crate) fn after_r3(
-    number: u16,
-    index: u16,
-    value: u32,
-    by: u16,
-    through: u16,
-    cell: Cell,
-) -> Moved
-    ensures { (s : Shared) → result ≡ moved (cond (same_cell cell (frozen value by through)) (serving s number (end (Value value))) (on_R1 s number index cell)) }
+// R3 answers the value if the word seen still stands, and else goes on as R1 does.
+pub(crate) fn after_r3(number: u16, index: u16, seen: Cell, cell: Cell) -> Moved
+    ensures { (s : Shared) → result ≡ moved (cond (same_cell cell seen) (serving s number (end (Value (value_in seen)))) (on_R1 s number index cell)) }
 {
-    match cell {
-        Cell::Frozen {
-            value: again,
-            by: maker,
-            through: helper,
-        } if again == value && maker == by && helper == through => {
-            answer(number, Answer::Value(value))
-        }
-        _ => after_r1(number, index, cell),
+    if cell == seen {
+        answer(number, Answer::Value(value_of(seen)))
+    } else {
+        after_r1(number, index, cell)
     }
 }
 

@@ -51,13 +51,13 @@ pub(crate) fn install(plan: Plan, stage: Stage) -> Moved
 }
 
 // What an operation does next where the vector has a size.
-pub(crate) fn chosen(capacity: u16, current: u16, size: u32, op: Op<u32>) -> Stage
+pub(crate) fn chosen(capacity: u16, current: u16, size: usize, op: Op<u32>) -> Stage
     requires { size ≤ 65536 }
     ensures { result ≡ choose capacity current size op }
 {
     match op {
         Op::Push(value) => {
-            if size < u32::from(capacity) {
+            if size < usize::from(capacity) {
                 let position = size as u16;
                 Stage::P1 {
                     current,
@@ -80,7 +80,7 @@ pub(crate) fn chosen(capacity: u16, current: u16, size: u32, op: Op<u32>) -> Sta
             }
         }
         Op::Size => {
-            let answer = Answer::Length(size as usize);
+            let answer = Answer::Length(size);
             Stage::L3 { current, answer }
         }
         Op::Read(_) | Op::Write(_, _) => Stage::L1,

@@ -1,9 +1,9 @@
 // The plans of the installed operations.
 ghost use Rattle.std.specs.Prelude.{◌≡◌, ◌≤◌};
 ghost use Rattle.descriptor_steps.specs.Shared.{position as position_of, pushed, emptied_by, size_after};
-ghost use Rattle.descriptor_steps.specs.Steps.{plan_of};
+ghost use Rattle.descriptor_steps.specs.Steps.{no_plans, plan_of, with_plan};
 
-use crate::stage::Plan;
+use crate::stage::{Plan, Plans};
 
 impl Plan {
     pub(crate) fn position(self) -> u16
@@ -35,25 +35,43 @@ impl Plan {
     }
 
     // How long the vector is once the plan is carried out.
-    pub(crate) fn size(self) -> u32
+    pub(crate) fn size(self) -> usize
         ensures size { result ≡ size_after self }
         ensures small { result ≤ 65536 }
     {
         match self {
             Plan::Unplanned => 0,
-            Plan::Pushing { position, .. } => u32::from(position) + 1,
-            Plan::Popping { position } => u32::from(position),
+            Plan::Pushing { position, .. } => usize::from(position) + 1,
+            Plan::Popping { position } => usize::from(position),
         }
     }
 }
 
-// The plan of a number.
-pub(crate) fn planned(plans: &[Plan; 401], number: u16) -> Plan
-    ensures { result ≡ plan_of plans.now number }
-{
-    if number < 401 {
-        plans[usize::from(number)]
-    } else {
-        Plan::Unplanned
+impl Plans {
+    // No number has a plan.
+    pub fn new() -> Plans
+        ensures { result ≡ no_plans }
+    {
+        Plans {
+            by_number: [Plan::Unplanned; 401],
+        }
+    }
+
+    // The plan of a number.
+    pub fn of(&self, number: u16) -> Plan
+        ensures { result ≡ plan_of self.now number }
+    {
+        let plan = self.by_number.get(usize::from(number));
+        plan.copied().unwrap_or(Plan::Unplanned)
+    }
+
+    // The plan of a number is put down.
+    pub fn put(&mut self, number: u16, plan: Plan)
+        ensures { self.new ≡ with_plan self.old number plan }
+    {
+        let place = usize::from(number);
+        if place < self.by_number.len() {
+            self.by_number[place] = plan;
+        }
     }
 }

@@ -17,6 +17,12 @@ pub enum Plan {
     },
 }
 
+// The plan of each number; number 0 has none.
+#[derive(Clone, Copy)]
+pub struct Plans {
+    pub by_number: [Plan; 401],
+}
+
 // Where a thread goes on when its help is over.
 #[derive(Clone, Copy)]
 pub enum Then {

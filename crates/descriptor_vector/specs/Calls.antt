@@ -1,6 +1,6 @@
 -- What each call does to the table and to the words of the memory, sound or not: it is refused just as its table of refusals
 -- says, and alters nothing then; else here are the table, the answer and every word after it.
-use Rattle.std.specs.Prelude.{◌≡◌, ℕ, suc, ◌+◌, Bool, List, [], ◌∷◌, ◌++◌, length, replicate, Some, None, is_some, Result, nat_le}
+use Rattle.std.specs.Prelude.{◌≡◌, ℕ, suc, ◌+◌, Bool, List, [], ◌∷◌, ◌++◌, length, Some, None, is_some, Result, nat_le}
 use Rattle.refusal.specs.declared.Refusal.{Refusal}
 use Rattle.vector.specs.declared.Op.{Op}
 use Rattle.vector.specs.declared.Stepped.{Stepped}
@@ -13,8 +13,8 @@ use Rattle.descriptor_words.specs.declared.access.Found.{Found}
 use Rattle.descriptor_steps.specs.declared.stage.Moved.{Moved}
 use Rattle.descriptor_vector.specs.declared.table.Table.{Table}
 use Rattle.descriptor_steps.specs.Machine.{Row, first, row_after}
-use Rattle.descriptor_steps.specs.Steps.{plan_of, access, seen, took, leads, plans_after, tells}
-use Rattle.linearization.specs.Names.{unplanned, Stage}
+use Rattle.descriptor_steps.specs.Steps.{no_plans, plan_of, access, seen, took, leads, plans_after, tells}
+use Rattle.linearization.specs.Names.{Stage}
 
 -- SET-UP. 401 words and one for each value are needed.
 abbrev pub needed : ℕ → ℕ
@@ -23,7 +23,7 @@ needed capacity = 401 + capacity
 -- Every field is written: the threads are idle, no number has a plan, and none was given.
 abbrev pub prepared : ℕ → ℕ → Table
 prepared capacity threads =
-    record { threads = idle_threads capacity threads; plans = replicate 401 unplanned }
+    record { threads = idle_threads capacity threads; plans = no_plans }
 
 -- Set-up alters no word: all are 0.
 abbrev pub Prepares : {X : Type 0} → Table → List ℕ → ℕ → ℕ → Result X Refusal → Table → List ℕ → Type 0

@@ -6,8 +6,9 @@ use Rattle.std.proofs.lemmas.Bool.{cases_eq, cases_Bool, eq-eqb, ne_eqb}
 use Rattle.descriptor_words.specs.Words.{cell_word, cell_of, status_word, status_of, CellFits, StatusFits, numbered}
 use Rattle.descriptor_words.specs.Accesses.{cell_at, current_of}
 use Rattle.descriptor_words.proofs.Codes.{in_range, cell_back, status_back, cell_same, status_same}
+use Rattle.descriptor_steps.specs.declared.stage.Plans.{Plans}
 use Rattle.descriptor_steps.specs.Shared.{Cell, Status, pending, done, final, Shared, same_cell, same_done, is_pending, set_cell, set_status, install}
-use Rattle.descriptor_steps.specs.Steps.{plan_of}
+use Rattle.descriptor_steps.specs.Steps.{plan_of, with_plan}
 use Rattle.linearization.specs.Names.{Plan}
 use Rattle.descriptor_vector.specs.View.{status_in, cell_in, view, PlanFits, Coded}
 use Rattle.linearization.proofs.Tests.{same_cell_true, same_cell_false, same_done_true, same_done_false, at_upd}
@@ -50,7 +51,7 @@ cell_apart ws at v i ne = ap cell_of (get_or-set_other ws at (cell_at i) v 0 ne)
 pub status_is : (ws : List ℕ) (k : ℕ) → numbered k ≡ true → status_in ws k ≡ status_of (slice_index ws k)
 status_is ws k n = rw n refl
 
-module _ (ws : List ℕ) (plans : List Plan) (capacity : ℕ) (coded : Coded ws plans capacity) where
+module _ (ws : List ℕ) (plans : Plans) (capacity : ℕ) (coded : Coded ws plans capacity) where
   pub cell_test : (i : ℕ) (old : Cell) → i < capacity → CellFits old → (slice_index ws (cell_at i) == cell_word old) ≡ same_cell (cell_in ws i) old
   cell_test i old h f =
       let w = coded.cell i h in
@@ -145,39 +146,39 @@ module _ (ws : List ℕ) (plans : List Plan) (capacity : ℕ) (coded : Coded ws 
       }
 
   -- a number is made current, and its plan installed
-  pub put_current : (n : ℕ) (p : Plan) → numbered n ≡ true → view (slice_set ws 0 n) (slice_set plans n p) capacity ≡ install (view ws plans capacity) n p
+  pub put_current : (n : ℕ) (p : Plan) → numbered n ≡ true → view (slice_set ws 0 n) (with_plan plans n p) capacity ≡ install (view ws plans capacity) n p
   put_current n p h =
       let room = coded.room in
       let many = coded.all_plans in
       let r = in_range n h in
       let here : 0 < length ws = omega arith in
-      let there : n < length plans = omega arith in
+      let there : n < length plans.by_number = omega arith in
       let small : current_of n ≡ n = omega arith in
       same_shared capacity
       (ap current_of (get_or-set_same ws 0 n 0 here) ∙ small)
       (λ k. status_apart ws 0 n k (λ m e. let q = in_range k m in omega arith))
       (λ k. cell_apart ws 0 n k (λ e. omega arith))
       (λ k. elim (at_upd (plan_of plans) n p k) [
-        | inl e ↦ (ap (plan_of (slice_set plans n p)) e.0 ∙ get_or-set_same plans n p _ there ∙ sym e.1)
-        | inr e ↦ (get_or-set_other plans n k p _ e.0 ∙ sym e.1)
+        | inl e ↦ (ap (plan_of (with_plan plans n p)) e.0 ∙ get_or-set_same plans.by_number n p _ there ∙ sym e.1)
+        | inr e ↦ (get_or-set_other plans.by_number n k p _ e.0 ∙ sym e.1)
       ])
 
-  pub put_current_coded : (n : ℕ) (p : Plan) → numbered n ≡ true → PlanFits capacity p → Coded (slice_set ws 0 n) (slice_set plans n p) capacity
+  pub put_current_coded : (n : ℕ) (p : Plan) → numbered n ≡ true → PlanFits capacity p → Coded (slice_set ws 0 n) (with_plan plans n p) capacity
   put_current_coded n p h f =
       let room = coded.room in
       let many = coded.all_plans in
       let r = in_range n h in
       let here : 0 < length ws = omega arith in
-      let there : n < length plans = omega arith in
+      let there : n < length plans.by_number = omega arith in
       record {
         some_cell = coded.some_cell;
         room = simp length-set coded.room;
-        all_plans = length-set plans n p ∙ coded.all_plans;
+        all_plans = length-set plans.by_number n p ∙ coded.all_plans;
         current = subst (λ w. w ≤ 400) (sym (get_or-set_same ws 0 n 0 here)) r.1;
         status = λ k m. let w = coded.status k m in (w.0, w.1, get_or-set_other ws 0 k n 0 (λ e. let q = in_range k m in omega arith) ∙ w.2);
         cell = λ k b. let w = coded.cell k b in (w.0, w.1, get_or-set_other ws 0 (cell_at k) n 0 (λ e. omega arith) ∙ w.2);
         plan = λ k. elim (at_upd (plan_of plans) n p k) [
-          | inl e ↦ subst (PlanFits capacity) (sym (ap (plan_of (slice_set plans n p)) e.0 ∙ get_or-set_same plans n p _ there)) f
-          | inr e ↦ subst (PlanFits capacity) (sym (get_or-set_other plans n k p _ e.0)) (coded.plan k)
+          | inl e ↦ subst (PlanFits capacity) (sym (ap (plan_of (with_plan plans n p)) e.0 ∙ get_or-set_same plans.by_number n p _ there)) f
+          | inr e ↦ subst (PlanFits capacity) (sym (get_or-set_other plans.by_number n k p _ e.0)) (coded.plan k)
         ];
       }

@@ -7,6 +7,7 @@ use Rattle.vector.specs.declared.Op.TheVariants.{Push, Pop, Read, Write, Size}
 use Rattle.descriptor_words.specs.Words.{CellFits, StatusFits, numbered}
 use Rattle.descriptor_words.specs.Accesses.{current_of}
 use Rattle.descriptor_words.proofs.Codes.{in_range}
+use Rattle.descriptor_steps.specs.declared.stage.Plans.{Plans}
 use Rattle.descriptor_steps.specs.Shared.{Cell, empty, plain, frozen, Status, pending, done, final, Shared, position, emptied_by, size_after, same_cell, is_pending}
 use Rattle.descriptor_steps.specs.Machine.{help, go_on, choose, Res, act, on_L1, on_L2, on_P1, on_G1, on_G2, on_G5, on_G5w, on_R1, on_R2, on_W1, on_W2}
 use Rattle.descriptor_steps.specs.Steps.{plan_of}
@@ -107,7 +108,7 @@ fits_W2 capacity s n i x a k j pending h hx f = help_fits capacity k (s.plan k) 
 fits_W2 capacity s n i x a k j (done b) h hx f = tt
 fits_W2 capacity s n i x a k j (final b) h hx f = (h, hx, f)
 
-module _ (ws : List ℕ) (plans : List Plan) (capacity : ℕ) (coded : Coded ws plans capacity) where
+module _ (ws : List ℕ) (plans : Plans) (capacity : ℕ) (coded : Coded ws plans capacity) where
   place : (k : ℕ) → position (plan_of plans k) < capacity
   place k = plan_position capacity (plan_of plans k) coded.some_cell (coded.plan k)
 

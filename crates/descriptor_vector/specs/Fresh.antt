@@ -1,5 +1,5 @@
 -- Words that are all 0 are the machine's fresh memory.
-use Rattle.std.specs.Prelude.{◌≡◌, ℕ, zero, suc, ◌<◌, ◌≤◌, List, [], length, replicate, slice_index, refl}
+use Rattle.std.specs.Prelude.{◌≡◌, ℕ, zero, suc, ◌<◌, ◌≤◌, List, [], length, replicate, slice_index, slice_index_or, refl}
 use Rattle.std.proofs.Common.{sym, ap, subst, inl, inr, arith}
 use Rattle.std.proofs.lemmas.List.{length-replicate}
 use Rattle.std.proofs.lemmas.Bool.{cases_Bool}
@@ -8,26 +8,29 @@ use Rattle.descriptor_words.specs.Words.{cell_of, status_of, numbered}
 use Rattle.descriptor_words.specs.Accesses.{cell_at, current_of}
 use Rattle.descriptor_steps.specs.Shared.{pending, empty, position, fresh}
 use Rattle.linearization.specs.Meaning.{effected, sized, values, items}
-use Rattle.descriptor_steps.specs.Steps.{plan_of}
+use Rattle.descriptor_steps.specs.Steps.{no_plans, plan_of}
 use Rattle.linearization.specs.Names.{Plan, unplanned}
 use Rattle.descriptor_vector.specs.Calls.{needed, prepared}
 use Rattle.descriptor_vector.specs.View.{status_in, cell_in, view, PlanFits, Coded}
 use Rattle.descriptor_vector.specs.Sound.{memory_of, shown}
 use Rattle.descriptor_vector.specs.Changes.{same_shared}
 
-no_plans : (n k : ℕ) → plan_of (replicate n unplanned) k ≡ unplanned
-no_plans zero k = refl
-no_plans (suc n) zero = refl
-no_plans (suc n) (suc k) = no_plans n k
+none_at : (n k : ℕ) → slice_index_or (replicate n unplanned) k unplanned ≡ unplanned
+none_at zero k = refl
+none_at (suc n) zero = refl
+none_at (suc n) (suc k) = none_at n k
+
+never_planned : (k : ℕ) → plan_of no_plans k ≡ unplanned
+never_planned = none_at 401
 
 module _ (words : List ℕ) (capacity : ℕ) (zeros : (at : ℕ) → slice_index words at ≡ 0) where
   all_pending : (k : ℕ) → status_in words k ≡ pending
   all_pending k = elim (cases_Bool (numbered k)) [ inl b ↦ rw b (ap status_of (zeros k)) | inr b ↦ rw b refl ]
 
-  pub fresh_view : view words (replicate 401 unplanned) capacity ≡ fresh capacity
-  fresh_view = same_shared capacity (ap current_of (zeros 0)) all_pending (λ i. ap cell_of (zeros (cell_at i))) (no_plans 401)
+  pub fresh_view : view words no_plans capacity ≡ fresh capacity
+  fresh_view = same_shared capacity (ap current_of (zeros 0)) all_pending (λ i. ap cell_of (zeros (cell_at i))) never_planned
 
-  pub fresh_coded : 0 < capacity → needed capacity ≤ length words → Coded words (replicate 401 unplanned) capacity
+  pub fresh_coded : 0 < capacity → needed capacity ≤ length words → Coded words no_plans capacity
   fresh_coded some_cell room = record {
     some_cell = some_cell;
     room = room;
@@ -35,7 +38,7 @@ module _ (words : List ℕ) (capacity : ℕ) (zeros : (at : ℕ) → slice_index
     current = subst (λ w. w ≤ 400) (sym (zeros 0)) (omega arith);
     status = λ k n. (pending, tt, zeros k);
     cell = λ i h. (empty 0, omega arith, zeros (cell_at i));
-    plan = λ k. subst (PlanFits capacity) (sym (no_plans 401 k)) tt;
+    plan = λ k. subst (PlanFits capacity) (sym (never_planned k)) tt;
   }
 
 -- what is just made means nothing yet, whatever stands in its memory
@@ -43,4 +46,4 @@ pub means_nothing : (words : List ℕ) → (shown (prepared 0 0) words).meaning 
 means_nothing words = λ i. record { capacity = 0; items = no_items i; rows = []; given = 0 }
   where
     no_items : items (memory_of (prepared 0 0) words) ≡ []
-    no_items = ap (λ (p : Plan). values (cell_in words) (sized p (effected p (status_in words (current_of (slice_index words 0))) (cell_in words (position p))))) (no_plans 401 (current_of (slice_index words 0)))
+    no_items = ap (λ (p : Plan). values (cell_in words) (sized p (effected p (status_in words (current_of (slice_index words 0))) (cell_in words (position p))))) (never_planned (current_of (slice_index words 0)))

@@ -2,6 +2,7 @@
 use Rattle.std.specs.Prelude.{◌≡◌, ℕ, zero, suc, Bool, true, false, cond, List, refl}
 use Rattle.vector.specs.declared.Op.{Op}
 use Rattle.descriptor_words.specs.declared.access.Found.{Found}
+use Rattle.descriptor_steps.specs.declared.stage.Plans.{Plans}
 use Rattle.descriptor_steps.specs.Shared.{Cell, empty, plain, frozen, Status, pending, done, final, Shared}
 use Rattle.descriptor_steps.specs.Machine.{Res, on_L1, on_L2, on_R1, on_R2, on_W1, on_W2}
 use Rattle.descriptor_steps.specs.Steps.{seen, moved}
@@ -9,7 +10,7 @@ use Rattle.linearization.specs.Names.{Plan}
 use Rattle.descriptor_vector.specs.View.{view}
 
 -- what is seen of a memory, and the memory
-module _ (plans : List Plan) (capacity : ℕ) (f : Found) (words : List ℕ) where
+module _ (plans : Plans) (capacity : ℕ) (f : Found) (words : List ℕ) where
   abbrev s : Shared
   s = seen plans capacity f
 

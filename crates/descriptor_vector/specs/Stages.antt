@@ -11,6 +11,7 @@ use Rattle.descriptor_words.specs.Accesses.{location, swapped, answered, words_a
 use Rattle.descriptor_words.proofs.Codes.{in_range}
 use Rattle.descriptor_steps.specs.declared.stage.Moved.{Moved}
 use Rattle.descriptor_vector.specs.declared.table.Table.{Table}
+use Rattle.descriptor_steps.specs.declared.stage.Plans.{Plans}
 use Rattle.descriptor_steps.specs.Shared.{Cell, empty, plain, frozen, Status, pending, done, final, Shared, position, pushed, emptied_by, value_in, set_cell, set_status, install, same_cell, same_done, is_pending, held}
 use Rattle.descriptor_steps.specs.Machine.{help, go_on, Res, quiet, serving, act, on_L2, on_G2, on_G5, on_G5w, on_R2, on_W2}
 use Rattle.descriptor_steps.specs.Steps.{plan_of, access, took, to, serves, installs, moved, plans_after}
@@ -21,7 +22,7 @@ use Rattle.descriptor_vector.specs.Looking as looking
 use Rattle.descriptor_vector.specs.Changes.{status_is, cell_test, pending_test, done_test, current_test, put_cell, put_cell_coded, put_status, put_status_coded, put_current, put_current_coded}
 
 -- the words, the plans and the move are those of a step of the machine
-pub record Does (words : List ℕ) (plans : List Plan) (capacity : ℕ) (r : Res) (m : Moved) : Type 0 where
+pub record Does (words : List ℕ) (plans : Plans) (capacity : ℕ) (r : Res) (m : Moved) : Type 0 where
   pub memory : view words plans capacity ≡ r.sh
   pub next : m.next ≡ r.nx
   pub served : m.served ≡ r.served
@@ -48,7 +49,7 @@ value_fits (plain a) f = f
 value_fits (frozen a k j) f = f.0
 
 module _ (T : Table) (W : List ℕ) (n : ℕ) (op : Op ℕ) (coded : Coded W T.plans T.threads.capacity) (own_number : numbered n ≡ true) where
-  abbrev P : List Plan
+  abbrev P : Plans
   P = T.plans
 
   abbrev V : Shared

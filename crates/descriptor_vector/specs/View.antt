@@ -4,6 +4,7 @@ use Rattle.vector.specs.declared.Op.{Op}
 use Rattle.vector.specs.declared.Op.TheVariants.{Push, Pop, Read, Write, Size}
 use Rattle.descriptor_words.specs.Words.{cell_word, cell_of, status_word, status_of, CellFits, StatusFits, numbered}
 use Rattle.descriptor_words.specs.Accesses.{cell_at, current_of}
+use Rattle.descriptor_steps.specs.declared.stage.Plans.{Plans}
 use Rattle.descriptor_steps.specs.Shared.{Cell, Status, pending, Shared}
 use Rattle.descriptor_steps.specs.Steps.{plan_of}
 use Rattle.linearization.specs.Names.{Plan, unplanned, pushing, popping, Then, own, to_L1, to_W1, Stage, L1, L2, L3, P1, L4, H1, H2, G1, G2, G3, G4, G5, G5w, G6, G7, O1, R1, R2, R3, W1, W2, W3, Next, goto, end, Row}
@@ -16,7 +17,7 @@ status_in words k = cond (numbered k) (status_of (slice_index words k)) pending
 abbrev pub cell_in : List ℕ → ℕ → Cell
 cell_in words i = cell_of (slice_index words (cell_at i))
 
-abbrev pub view : List ℕ → List Plan → ℕ → Shared
+abbrev pub view : List ℕ → Plans → ℕ → Shared
 view words plans capacity =
     record { cur = current_of (slice_index words 0); status = status_in words; cell = cell_in words; plan = plan_of plans; cap = capacity }
 
@@ -27,10 +28,10 @@ PlanFits capacity (pushing p x e) = (p < capacity) × (x < 2 ^ 32) × (e ≤ 400
 PlanFits capacity (popping p) = p < capacity
 
 -- The words are those of a number, of statuses and of cells, and there is room for all.
-pub record Coded (words : List ℕ) (plans : List Plan) (capacity : ℕ) : Type 0 where
+pub record Coded (words : List ℕ) (plans : Plans) (capacity : ℕ) : Type 0 where
   pub some_cell : 0 < capacity
   pub room : needed capacity ≤ length words
-  pub all_plans : length plans ≡ 401
+  pub all_plans : length plans.by_number ≡ 401
   pub current : slice_index_or words 0 0 ≤ 400
   pub status : (k : ℕ) → numbered k ≡ true → (v : Status) × StatusFits v × (slice_index words k ≡ status_word v)
   pub cell : (i : ℕ) → i < capacity → (w : Cell) × CellFits w × (slice_index words (cell_at i) ≡ cell_word w)

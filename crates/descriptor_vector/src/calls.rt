@@ -1,17 +1,37 @@
 // The calls of the vector, sound or not.
-ghost use Rattle.std.specs.Prelude.{◌≡◌};
+ghost use Rattle.std.specs.Prelude.{◌≡◌, true};
 ghost use Rattle.descriptor_vector.specs.Calls.{prepared, Prepares, Admits, Advances};
 ghost use Rattle.descriptor_vector.specs.Sound.{shown};
+ghost use Rattle.descriptor_steps.specs.Machine.{first};
 ghost use Rattle.vector.specs.Meaning.{unset};
+ghost use Rattle.vector.specs.Plain.{index_fits, Small};
 
-use crate::rows::first_stage;
 use crate::structure::DescriptorVector;
 use crate::table::Table;
-use descriptor_steps::{Plan, access_at, lead};
+use descriptor_steps::{Plans, Stage, access_at, lead};
 use descriptor_words::perform;
 use memory::Memory;
 use refusal::Refusal;
-use vector::{Op, Stepped, Task, Threads, all_zero};
+use vector::{Container, Op, Stepped, Task, Threads, all_zero};
+
+// The first stage of an operation whose index is below the capacity.
+fn first_stage(capacity: u16, op: Op<u32>) -> Stage
+    requires { index_fits capacity op ≡ true }
+    ensures stage { result ≡ first op }
+    ensures small { Small op }
+{
+    match op {
+        Op::Push(_value) => Stage::L1,
+        Op::Pop | Op::Size => Stage::L1,
+        Op::Read(index) => Stage::R1 {
+            index: index as u16,
+        },
+        Op::Write(index, value) => {
+            let index = index as u16;
+            Stage::W1 { index, value }
+        }
+    }
+}
 
 impl<M: Memory> DescriptorVector<M> {
     // Over a memory, not yet set up.
@@ -22,7 +42,7 @@ impl<M: Memory> DescriptorVector<M> {
     {
         let table = Table {
             threads: Threads::new(0, 0),
-            plans: [Plan::Unplanned; 401],
+            plans: Plans::new(),
         };
         DescriptorVector { memory, table }
     }
@@ -31,12 +51,12 @@ impl<M: Memory> DescriptorVector<M> {
         ensures { Prepares self.old.table (M.words self.old.memory) capacity threads result self.new.table (M.words self.new.memory) }
     {
         let words = self.memory.len();
-        let needed = capacity.saturating_add(401);
+        let needed = self.words_needed(capacity);
         let zeros = all_zero(&self.memory);
         self.table
             .threads
             .set_up(capacity, threads, words, needed, zeros)?;
-        self.table.plans = [Plan::Unplanned; 401];
+        self.table.plans = Plans::new();
         Ok(())
     }
 
@@ -53,17 +73,10 @@ impl<M: Memory> DescriptorVector<M> {
         ensures { Advances self.old.table (M.words self.old.memory) thread result self.new.table (M.words self.new.memory) }
     {
         let task = self.table.threads.open(thread)?;
-        let access = access_at(&self.table.plans, task.number, task.stage);
+        let access = access_at(&self.table.plans, task);
         let found = perform(&mut self.memory, access)?;
         let capacity = self.table.threads.capacity;
-        let moved = lead(
-            &self.table.plans,
-            capacity,
-            task.number,
-            task.op,
-            task.stage,
-            found,
-        );
+        let moved = lead(&self.table.plans, capacity, task, found);
         self.table.settle(thread, task, moved);
         Ok(moved.stepped(task.number))
     }

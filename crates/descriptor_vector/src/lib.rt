@@ -3,7 +3,6 @@
 
 mod calls;
 mod container;
-mod rows;
 mod structure;
 mod table;
 

@@ -1,10 +1,24 @@
 // What a descriptor vector keeps beside its memory.
-use descriptor_steps::{Plan, Stage};
-use vector::Threads;
+ghost use Rattle.std.specs.Prelude.{◌≡◌};
+ghost use Rattle.descriptor_vector.specs.Calls.{settled};
+
+use descriptor_steps::{Moved, Plans, Stage};
+use vector::{Task, Threads};
 
 #[derive(Drop)]
 pub struct Table {
     pub threads: Threads<Stage>,
-    // By number; number 0 has none.
-    pub plans: [Plan; 401],
+    pub plans: Plans,
+}
+
+impl Table {
+    // The thread's task moves on, and its plan is put down, if there is one to install.
+    pub(crate) fn settle(&mut self, thread: usize, task: Task<Stage>, moved: Moved)
+        ensures { self.new ≡ settled self.old thread task.number task.op moved }
+    {
+        if let Some(plan) = moved.plan {
+            self.plans.put(task.number, plan);
+        }
+        self.threads.settle(thread, moved.next.row(task));
+    }
 }

@@ -51,22 +51,19 @@ fn cell_location(position: u16) -> usize
 fn load_current<M: Memory>(memory: &M) -> Result<u16, Refusal>
     ensures { Reads current_of (M.words memory.now) 0 result }
 {
-    let word = memory.load(0)?;
-    Ok((word % 512) as u16)
+    memory.load(0).map(|word| (word % 512) as u16)
 }
 
 fn load_status<M: Memory>(memory: &M, number: u16) -> Result<Status, Refusal>
     ensures { Reads status_of (M.words memory.now) number result }
 {
-    let word = memory.load(usize::from(number))?;
-    Ok(Status::decode(word))
+    memory.load(usize::from(number)).map(Status::decode)
 }
 
 fn load_cell<M: Memory>(memory: &M, position: u16) -> Result<Cell, Refusal>
     ensures { Reads cell_of (M.words memory.now) (cell_at position) result }
 {
-    let word = memory.load(cell_location(position))?;
-    Ok(Cell::decode(word))
+    memory.load(cell_location(position)).map(Cell::decode)
 }
 
 // One access, whatever stands in the memory: every word afterwards is pinned.
@@ -74,20 +71,17 @@ pub fn perform<M: Memory>(memory: &mut M, access: Access) -> Result<Found, Refus
     ensures { Performs (M.words memory.old) access result (M.words memory.new) }
 {
     match access {
-        Access::LoadCurrent => Ok(Found::Number(load_current(memory)?)),
-        Access::LoadStatus { number } => Ok(Found::Status(load_status(memory, number)?)),
-        Access::LoadCell { position } => Ok(Found::Cell(load_cell(memory, position)?)),
-        Access::SwapCurrent { old, new } => {
-            let swapped = memory.swap(0, u64::from(old), u64::from(new))?;
-            Ok(Found::Swap(swapped))
-        }
-        Access::SwapStatus { number, old, new } => {
-            let swapped = memory.swap(usize::from(number), old.encode(), new.encode())?;
-            Ok(Found::Swap(swapped))
-        }
-        Access::SwapCell { position, old, new } => {
-            let swapped = memory.swap(cell_location(position), old.encode(), new.encode())?;
-            Ok(Found::Swap(swapped))
-        }
+        Access::LoadCurrent => load_current(memory).map(Found::Number),
+        Access::LoadStatus { number } => load_status(memory, number).map(Found::Status),
+        Access::LoadCell { position } => load_cell(memory, position).map(Found::Cell),
+        Access::SwapCurrent { old, new } => memory
+            .swap(0, u64::from(old), u64::from(new))
+            .map(Found::Swap),
+        Access::SwapStatus { number, old, new } => memory
+            .swap(usize::from(number), old.encode(), new.encode())
+            .map(Found::Swap),
+        Access::SwapCell { position, old, new } => memory
+            .swap(cell_location(position), old.encode(), new.encode())
+            .map(Found::Swap),
     }
 }

@@ -6,7 +6,7 @@ use crate::parts::{by_in, form_in, pack, through_in, value_in};
 
 // A cell: emptied by an operation (0: never used), a plain value, or a value that a pop froze, through the operation of the
 // thread that put the word.
-#[derive(Clone, Copy)]
+#[derive(Clone, Copy, PartialEq, Eq)]
 pub enum Cell {
     Empty { by: u16 },
     Plain(u32),
@@ -14,7 +14,7 @@ pub enum Cell {
 }
 
 // An operation's status: pending, done with the value that it removes, or final.
-#[derive(Clone, Copy)]
+#[derive(Clone, Copy, PartialEq, Eq)]
 pub enum Status {
     Pending,
     Done(u32),
