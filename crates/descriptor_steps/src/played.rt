@@ -2,8 +2,6 @@
 ghost use Rattle.descriptor_steps.specs.Played.{PlayedRuns};
 
 // The played runs of the step table, by computation.
-pub fn played_runs() -> u8
+pub fn played_runs()
     ensures { PlayedRuns }
-{
-    0
-}
+{}

@@ -6,7 +6,6 @@ use Rattle.descriptor_steps.specs.declared.stage.Plans.{Plans}
 use Rattle.descriptor_steps.specs.Shared.{Cell, empty, plain, frozen, Status, pending, done, final, Shared}
 use Rattle.descriptor_steps.specs.Machine.{Res, on_L1, on_L2, on_R1, on_R2, on_W1, on_W2}
 use Rattle.descriptor_steps.specs.Steps.{seen, moved}
-use Rattle.linearization.specs.Names.{Plan}
 use Rattle.descriptor_vector.specs.View.{view}
 
 -- what is seen of a memory, and the memory

@@ -4,5 +4,5 @@ ghost use Rattle.played.specs.Worked.{WorkedRuns};
 pub fn worked_runs()
     ensures { WorkedRuns }
 {
-    let _ = descriptor_vector::played_runs();
+    descriptor_vector::played_runs();
 }
