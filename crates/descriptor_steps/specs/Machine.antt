@@ -7,7 +7,7 @@ use Rattle.vector.specs.declared.Answer.TheVariants.{Position, Value, Full, Empt
 use Rattle.vector.specs.declared.Ended.{Ended}
 use Rattle.vector.specs.declared.Stepped.{Stepped}
 use Rattle.vector.specs.declared.threads.Task.{Task}
-use Rattle.descriptor_steps.specs.Shared.{Cell, empty, plain, frozen, Status, pending, done, final, Plan, unplanned, pushing, popping, Shared, set_cell, set_status, install, is_pending, held, position, pushed, emptied_by, size_after, value_in, same_cell, same_done}
+use Rattle.descriptor_steps.specs.Shared.{Cell, empty, plain, frozen, Status, pending, done, final, Plan, pushing, popping, Shared, set_cell, set_status, install, is_pending, held, position, pushed, emptied_by, size_after, value_in, same_cell, same_done}
 pub use Rattle.descriptor_steps.specs.declared.stage.Then.{Then}
 pub use Rattle.descriptor_steps.specs.declared.stage.Then.TheVariants.{Own as own, ToL1 as to_L1, ToW1 as to_W1}
 pub use Rattle.descriptor_steps.specs.declared.stage.Stage.{Stage}
@@ -48,16 +48,16 @@ choose capacity c m (Read i) = L1
 choose capacity c m (Write i x) = L1
 
 -- Help of operation c begins at H1 for a push, at G1 for a pop.
-abbrev pub help : ℕ → Plan → Then → Stage
-help c unplanned r = L1
-help c (pushing p x e) r = H1 c r
-help c (popping p) r = G1 c r
+abbrev pub help : ℕ → Option Plan → Then → Stage
+help c None r = L1
+help c (Some (pushing p x e)) r = H1 c r
+help c (Some (popping p)) r = G1 c r
 
 -- Help is over: a thread that helped its own push ends, its own pop looks up its answer; who helped another goes back.
-abbrev pub go_on : Plan → Then → Next
-go_on (pushing p x e) own = end (Position p)
-go_on (popping p) own = goto O1
-go_on unplanned own = goto L1
+abbrev pub go_on : Option Plan → Then → Next
+go_on (Some (pushing p x e)) own = end (Position p)
+go_on (Some (popping p)) own = goto O1
+go_on None own = goto L1
 go_on p to_L1 = goto L1
 go_on p (to_W1 i x) = goto (W1 i x)
 
@@ -83,17 +83,17 @@ on_G1 c r (empty e) = G5 c r
 on_G1 c r (plain a) = G3 c (plain a) r
 on_G1 c r (frozen a k j) = cond (k == c) (G4 c a j r) (G2 c a k j r)
 
-abbrev pub on_G2 : ℕ → Plan → Cell → Then → Status → Next
+abbrev pub on_G2 : ℕ → Option Plan → Cell → Then → Status → Next
 on_G2 c p w r pending = go_on p r
 on_G2 c p w r (done a) = go_on p r
 on_G2 c p w r (final a) = goto (G3 c w r)
 
-abbrev pub on_G5 : ℕ → Plan → Then → Status → Next
+abbrev pub on_G5 : ℕ → Option Plan → Then → Status → Next
 on_G5 c p r pending = goto (G1 c r)
 on_G5 c p r (done a) = goto (G7 c a r)
 on_G5 c p r (final a) = go_on p r
 
-abbrev pub on_G5w : ℕ → Plan → ℕ → ℕ → Then → Status → Next
+abbrev pub on_G5w : ℕ → Option Plan → ℕ → ℕ → Then → Status → Next
 on_G5w c p a j r pending = goto (G1 c r)
 on_G5w c p a j r (done b) = goto (G6 c a j b r)
 on_G5w c p a j r (final b) = go_on p r
@@ -127,7 +127,7 @@ act s n op L1 = quiet s (goto (on_L1 s op s.cur))
 act s n op (L2 c) = quiet s (goto (on_L2 s op c (s.status c)))
 act s n op (L3 c a) = cond (s.cur == c) (serving s n (end a)) (quiet s (goto L1))
 act s n op (P1 c m x) = quiet s (goto (on_P1 c m x (s.cell m)))
-act s n op (L4 c p) = cond (s.cur == c) (quiet (install s n p) (goto (help n p own))) (quiet s (goto L1))
+act s n op (L4 c p) = cond (s.cur == c) (quiet (install s n p) (goto (help n (Some p) own))) (quiet s (goto L1))
 -- H1 fills the cell of push c, if it is still empty by whom the plan says; H2 makes c final.
 act s n op (H1 c r) =
     cond (same_cell (s.cell (position (s.plan c))) (empty (emptied_by (s.plan c))))

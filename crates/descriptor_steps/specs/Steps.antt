@@ -10,21 +10,21 @@ use Rattle.vector.specs.declared.Answer.TheVariants.{Done}
 use Rattle.vector.specs.declared.Stepped.{Stepped}
 use Rattle.descriptor_steps.specs.declared.stage.Moved.{Moved}
 use Rattle.descriptor_steps.specs.declared.stage.Plans.{Plans}
-use Rattle.descriptor_steps.specs.Shared.{Cell, empty, plain, frozen, Status, pending, done, final, Plan, unplanned, Shared, position, pushed, emptied_by, value_in}
+use Rattle.descriptor_steps.specs.Shared.{Cell, empty, plain, frozen, Status, pending, done, final, Plan, Shared, position, pushed, emptied_by, value_in}
 use Rattle.descriptor_steps.specs.Machine.{Stage, L1, L2, L3, P1, L4, H1, H2, G1, G2, G3, G4, G5, G5w, G6, G7, O1, R1, R2, R3, W1, W2, W3, Next, goto, end, own, help, go_on, Res, act, ended}
 
 -- No number has a plan; the plan of a number; and with another plan of number n.
 abbrev pub no_plans : Plans
-no_plans = record { by_number = replicate 401 unplanned }
+no_plans = record { by_number = replicate 401 None }
 
-abbrev pub plan_of : Plans → ℕ → Plan
-plan_of plans k = slice_index_or plans.by_number k unplanned
+abbrev pub plan_of : Plans → ℕ → Option Plan
+plan_of plans k = slice_index_or plans.by_number k None
 
 abbrev pub with_plan : Plans → ℕ → Plan → Plans
-with_plan plans n p = record { by_number = slice_set plans.by_number n p }
+with_plan plans n p = record { by_number = slice_set plans.by_number n (Some p) }
 
 -- The one access of a stage, of the operation with number n.
-abbrev pub access : (ℕ → Plan) → ℕ → Stage → Access
+abbrev pub access : (ℕ → Option Plan) → ℕ → Stage → Access
 access plan n L1 = LoadCurrent
 access plan n (L2 c) = LoadStatus c
 access plan n (L3 c a) = LoadCurrent
@@ -98,7 +98,7 @@ leads s took n op L1 = moved (act s n op L1)
 leads s took n op (L2 c) = moved (act s n op (L2 c))
 leads s took n op (L3 c a) = moved (act s n op (L3 c a))
 leads s took n op (P1 c m x) = moved (act s n op (P1 c m x))
-leads s took n op (L4 c p) = cond took (installs p (goto (help n p own))) (to (goto L1))
+leads s took n op (L4 c p) = cond took (installs p (goto (help n (Some p) own))) (to (goto L1))
 leads s took n op (H1 c r) = cond took (serves c (goto (H2 c r))) (to (goto (H2 c r)))
 leads s took n op (H2 c r) = to (go_on (s.plan c) r)
 leads s took n op (G1 c r) = moved (act s n op (G1 c r))

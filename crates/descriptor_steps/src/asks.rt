@@ -44,13 +44,13 @@ fn swap_cell(position: u16, old: Cell, new: Cell) -> Access
 }
 
 // H1 fills the cell of a push, if it is still empty by whom the plan says.
-fn fill(plan: Plan) -> Access
+fn fill(plan: Option<Plan>) -> Access
     ensures { result ≡ Access.SwapCell (position plan) (empty (emptied_by plan)) (plain (pushed plan)) }
 {
-    let old = Cell::Empty {
-        by: plan.emptied_by(),
-    };
-    swap_cell(plan.position(), old, Cell::Plain(plan.value()))
+    let position = plan.map_or(0, Plan::position);
+    let by = plan.map_or(0, Plan::emptied_by);
+    let value = plan.map_or(0, Plan::value);
+    swap_cell(position, Cell::Empty { by }, Cell::Plain(value))
 }
 
 // G3 freezes the word seen for the helped pop, through the own number.
@@ -82,10 +82,10 @@ pub fn access_at(plans: &Plans, task: Task<Stage>) -> Access
         },
         Stage::H1 { helped, .. } => fill(plans.of(helped)),
         Stage::H2 { helped, .. } => swap_status(helped, Status::Pending, Status::Final(0)),
-        Stage::G1 { helped, .. } => load_cell(plans.of(helped).position()),
+        Stage::G1 { helped, .. } => load_cell(plans.position(helped)),
         Stage::G2 { by, .. } | Stage::R2 { by, .. } | Stage::W2 { by, .. } => load_status(by),
         Stage::G3 { helped, seen, .. } => {
-            freeze(plans.of(helped).position(), seen, helped, task.number)
+            freeze(plans.position(helped), seen, helped, task.number)
         }
         Stage::G4 { helped, value, .. } => {
             swap_status(helped, Status::Pending, Status::Done(value))
@@ -96,7 +96,7 @@ pub fn access_at(plans: &Plans, task: Task<Stage>) -> Access
             value,
             through,
             ..
-        } => { empty_out(plans.of(helped).position(), value, helped, through) }
+        } => { empty_out(plans.position(helped), value, helped, through) }
         Stage::G7 { helped, popped, .. } => {
             swap_status(helped, Status::Done(popped), Status::Final(popped))
         }

@@ -23,7 +23,7 @@ pub(crate) fn after_l1(capacity: u16, op: Op<u32>, current: u16) -> Stage
 
 pub(crate) fn after_l2(
     capacity: u16,
-    plan: Plan,
+    plan: Option<Plan>,
     op: Op<u32>,
     current: u16,
     status: Status,
@@ -32,7 +32,7 @@ pub(crate) fn after_l2(
 {
     match status {
         Status::Pending | Status::Done(_) => helping(current, plan, Then::ToL1),
-        Status::Final(_) => chosen(capacity, current, plan.size(), op),
+        Status::Final(_) => chosen(capacity, current, plan.map_or(0, Plan::size), op),
     }
 }
 
@@ -94,7 +94,13 @@ pub(crate) fn after_g1(helped: u16, then: Then, cell: Cell) -> Stage
     }
 }
 
-pub(crate) fn after_g2(helped: u16, plan: Plan, seen: Cell, then: Then, status: Status) -> Next
+pub(crate) fn after_g2(
+    helped: u16,
+    plan: Option<Plan>,
+    seen: Cell,
+    then: Then,
+    status: Status,
+) -> Next
     ensures { result ≡ on_G2 helped plan seen then status }
 {
     match status {
@@ -105,7 +111,13 @@ pub(crate) fn after_g2(helped: u16, plan: Plan, seen: Cell, then: Then, status: 
 
 // What G5's status means depends on where G5 was reached from: done leads to G6 with the frozen word from G4, and to G7 from G1,
 // which found the cell empty.
-pub(crate) fn after_g5(stage: Stage, helped: u16, plan: Plan, then: Then, status: Status) -> Next
+pub(crate) fn after_g5(
+    stage: Stage,
+    helped: u16,
+    plan: Option<Plan>,
+    then: Then,
+    status: Status,
+) -> Next
     ensures from_g1 { stage ≡ Stage.G5 helped then → result ≡ on_G5 helped plan then status }
     ensures from_g4 { (value through : ℕ) → stage ≡ Stage.G5w helped value through then → result ≡ on_G5w helped plan value through then status }
 {
@@ -211,7 +223,7 @@ pub(crate) fn after_w1(number: u16, index: u16, value: u32, cell: Cell) -> Moved
 
 pub(crate) fn after_w2(
     number: u16,
-    plan: Plan,
+    plan: Option<Plan>,
     index: u16,
     value: u32,
     seen: Cell,

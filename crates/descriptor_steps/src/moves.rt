@@ -88,26 +88,26 @@ pub(crate) fn chosen(capacity: u16, current: u16, size: usize, op: Op<u32>) -> S
 }
 
 // The first stage of helping a number with its plan.
-pub(crate) fn helping(helped: u16, plan: Plan, then: Then) -> Stage
+pub(crate) fn helping(helped: u16, plan: Option<Plan>, then: Then) -> Stage
     ensures { result ≡ help helped plan then }
 {
     match plan {
-        Plan::Unplanned => Stage::L1,
-        Plan::Pushing { .. } => Stage::H1 { helped, then },
-        Plan::Popping { .. } => Stage::G1 { helped, then },
+        None => Stage::L1,
+        Some(Plan::Pushing { .. }) => Stage::H1 { helped, then },
+        Some(Plan::Popping { .. }) => Stage::G1 { helped, then },
     }
 }
 
 // Help is over.
-pub(crate) fn helped_out(plan: Plan, then: Then) -> Next
+pub(crate) fn helped_out(plan: Option<Plan>, then: Then) -> Next
     ensures { result ≡ go_on plan then }
 {
     match (then, plan) {
-        (Then::Own, Plan::Pushing { position, .. }) => {
+        (Then::Own, Some(Plan::Pushing { position, .. })) => {
             Next::End(Answer::Position(usize::from(position)))
         }
-        (Then::Own, Plan::Popping { .. }) => Next::Goto(Stage::O1),
-        (Then::Own, Plan::Unplanned) => Next::Goto(Stage::L1),
+        (Then::Own, Some(Plan::Popping { .. })) => Next::Goto(Stage::O1),
+        (Then::Own, None) => Next::Goto(Stage::L1),
         (Then::ToL1, _) => Next::Goto(Stage::L1),
         (Then::ToW1 { index, value }, _) => Next::Goto(Stage::W1 { index, value }),
     }

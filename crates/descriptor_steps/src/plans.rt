@@ -7,40 +7,37 @@ use crate::stage::{Plan, Plans};
 
 impl Plan {
     pub(crate) fn position(self) -> u16
-        ensures { result ≡ position_of self }
+        ensures { result ≡ position_of (Some self) }
     {
         match self {
-            Plan::Unplanned => 0,
-            Plan::Pushing { position, .. } => position,
-            Plan::Popping { position } => position,
+            Plan::Pushing { position, .. } | Plan::Popping { position } => position,
         }
     }
 
     pub(crate) fn value(self) -> u32
-        ensures { result ≡ pushed self }
+        ensures { result ≡ pushed (Some self) }
     {
         match self {
             Plan::Pushing { value, .. } => value,
-            Plan::Unplanned | Plan::Popping { .. } => 0,
+            Plan::Popping { .. } => 0,
         }
     }
 
     pub(crate) fn emptied_by(self) -> u16
-        ensures { result ≡ emptied_by self }
+        ensures { result ≡ emptied_by (Some self) }
     {
         match self {
             Plan::Pushing { emptied_by, .. } => emptied_by,
-            Plan::Unplanned | Plan::Popping { .. } => 0,
+            Plan::Popping { .. } => 0,
         }
     }
 
     // How long the vector is once the plan is carried out.
     pub(crate) fn size(self) -> usize
-        ensures size { result ≡ size_after self }
+        ensures size { result ≡ size_after (Some self) }
         ensures small { result ≤ 65536 }
     {
         match self {
-            Plan::Unplanned => 0,
             Plan::Pushing { position, .. } => usize::from(position) + 1,
             Plan::Popping { position } => usize::from(position),
         }
@@ -53,16 +50,22 @@ impl Plans {
         ensures { result ≡ no_plans }
     {
         Plans {
-            by_number: [Plan::Unplanned; 401],
+            by_number: [None; 401],
         }
     }
 
-    // The plan of a number.
-    pub fn of(&self, number: u16) -> Plan
+    // The plan of a number, if it has one.
+    pub fn of(&self, number: u16) -> Option<Plan>
         ensures { result ≡ plan_of self.now number }
     {
-        let plan = self.by_number.get(usize::from(number));
-        plan.copied().unwrap_or(Plan::Unplanned)
+        *self.by_number.get(usize::from(number))?
+    }
+
+    // The position of a number's plan.
+    pub(crate) fn position(&self, number: u16) -> u16
+        ensures { result ≡ position_of (plan_of self.now number) }
+    {
+        self.of(number).map_or(0, Plan::position)
     }
 
     // The plan of a number is put down.
@@ -71,7 +74,7 @@ impl Plans {
     {
         let place = usize::from(number);
         if place < self.by_number.len() {
-            self.by_number[place] = plan;
+            self.by_number[place] = Some(plan);
         }
     }
 }

@@ -6,7 +6,6 @@ use vector::Answer;
 // operation; a pop removes the value at a position.
 #[derive(Clone, Copy)]
 pub enum Plan {
-    Unplanned,
     Pushing {
         position: u16,
         value: u32,
@@ -20,7 +19,7 @@ pub enum Plan {
 // The plan of each number; number 0 has none.
 #[derive(Clone, Copy)]
 pub struct Plans {
-    pub by_number: [Plan; 401],
+    pub by_number: [Option<Plan>; 401],
 }
 
 // Where a thread goes on when its help is over.
@@ -137,7 +136,7 @@ pub enum Stage {
     },
 }
 
-// A step leads to another stage, or ends the operation.
+// A step leads to another stage, or ends the operation, which is no error: as a `Result` it would be no plainer.
 #[derive(Clone, Copy)]
 pub enum Next {
     Goto(Stage),

@@ -13,10 +13,10 @@ use vector::Answer;
 
 // L4 makes the own number the current one: the plan is installed, and the thread helps itself.
 pub(crate) fn after_l4(number: u16, plan: Plan, took: bool) -> Moved
-    ensures { result ≡ cond took (installs plan (goto (help number plan own))) (to (goto Stage.L1)) }
+    ensures { result ≡ cond took (installs plan (goto (help number (Some plan) own))) (to (goto Stage.L1)) }
 {
     if took {
-        install(plan, helping(number, plan, Then::Own))
+        install(plan, helping(number, Some(plan), Then::Own))
     } else {
         go_to(Stage::L1)
     }

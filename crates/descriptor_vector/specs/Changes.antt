@@ -1,6 +1,6 @@
 -- A word that is swapped is the machine's change of its memory: the test of two words is the test of what they stand for, and the
 -- words after a swap are those of the memory changed at one place.
-use Rattle.std.specs.Prelude.{◌≡◌, ℕ, ◌^◌, ◌<◌, ◌≤◌, true, cond, ◌≢◌, List, length, ◌==◌, nat_eq, slice_index, slice_index_or, slice_set, refl}
+use Rattle.std.specs.Prelude.{◌≡◌, ℕ, ◌^◌, ◌<◌, ◌≤◌, true, cond, ◌≢◌, List, length, ◌==◌, nat_eq, slice_index, slice_index_or, slice_set, refl, Some, Option}
 use Rattle.std.proofs.Common.{sym, ap, ◌∙◌, subst, inl, inr, arith, length-set, get_or-set_same, get_or-set_other}
 use Rattle.std.proofs.lemmas.Bool.{cases_eq, cases_Bool, eq-eqb, ne_eqb}
 use Rattle.descriptor_words.specs.Words.{cell_word, cell_of, status_word, status_of, CellFits, StatusFits, numbered}
@@ -32,7 +32,7 @@ done_word v b fv fb =
       | inr h ↦ ne_eqb (status_word v) (status_word (done b)) (λ e. same_done_false v b h (status_same v (done b) fv fb e)) ∙ sym h
     ]
 
-pub same_shared : {a b : ℕ} {s t : ℕ → Status} {c d : ℕ → Cell} {p q : ℕ → Plan} (capacity : ℕ)
+pub same_shared : {a b : ℕ} {s t : ℕ → Status} {c d : ℕ → Cell} {p q : ℕ → Option Plan} (capacity : ℕ)
     → a ≡ b → ((k : ℕ) → s k ≡ t k) → ((k : ℕ) → c k ≡ d k) → ((k : ℕ) → p k ≡ q k)
     → ◌≡◌ {A = Shared} (record { cur = a; status = s; cell = c; plan = p; cap = capacity }) (record { cur = b; status = t; cell = d; plan = q; cap = capacity })
 same_shared capacity e f g h = λ i. record { cur = e i; status = λ k. f k i; cell = λ k. g k i; plan = λ k. h k i; cap = capacity }
@@ -158,12 +158,12 @@ module _ (ws : List ℕ) (plans : Plans) (capacity : ℕ) (coded : Coded ws plan
       (ap current_of (get_or-set_same ws 0 n 0 here) ∙ small)
       (λ k. status_apart ws 0 n k (λ m e. let q = in_range k m in omega arith))
       (λ k. cell_apart ws 0 n k (λ e. omega arith))
-      (λ k. elim (at_upd (plan_of plans) n p k) [
-        | inl e ↦ (ap (plan_of (with_plan plans n p)) e.0 ∙ get_or-set_same plans.by_number n p _ there ∙ sym e.1)
-        | inr e ↦ (get_or-set_other plans.by_number n k p _ e.0 ∙ sym e.1)
+      (λ k. elim (at_upd (plan_of plans) n (Some p) k) [
+        | inl e ↦ (ap (plan_of (with_plan plans n p)) e.0 ∙ get_or-set_same plans.by_number n (Some p) _ there ∙ sym e.1)
+        | inr e ↦ (get_or-set_other plans.by_number n k (Some p) _ e.0 ∙ sym e.1)
       ])
 
-  pub put_current_coded : (n : ℕ) (p : Plan) → numbered n ≡ true → PlanFits capacity p → Coded (slice_set ws 0 n) (with_plan plans n p) capacity
+  pub put_current_coded : (n : ℕ) (p : Plan) → numbered n ≡ true → PlanFits capacity (Some p) → Coded (slice_set ws 0 n) (with_plan plans n p) capacity
   put_current_coded n p h f =
       let room = coded.room in
       let many = coded.all_plans in
@@ -173,12 +173,12 @@ module _ (ws : List ℕ) (plans : Plans) (capacity : ℕ) (coded : Coded ws plan
       record {
         some_cell = coded.some_cell;
         room = simp length-set coded.room;
-        all_plans = length-set plans.by_number n p ∙ coded.all_plans;
+        all_plans = length-set plans.by_number n (Some p) ∙ coded.all_plans;
         current = subst (λ w. w ≤ 400) (sym (get_or-set_same ws 0 n 0 here)) r.1;
         status = λ k m. let w = coded.status k m in (w.0, w.1, get_or-set_other ws 0 k n 0 (λ e. let q = in_range k m in omega arith) ∙ w.2);
         cell = λ k b. let w = coded.cell k b in (w.0, w.1, get_or-set_other ws 0 (cell_at k) n 0 (λ e. omega arith) ∙ w.2);
-        plan = λ k. elim (at_upd (plan_of plans) n p k) [
-          | inl e ↦ subst (PlanFits capacity) (sym (ap (plan_of (with_plan plans n p)) e.0 ∙ get_or-set_same plans.by_number n p _ there)) f
-          | inr e ↦ subst (PlanFits capacity) (sym (get_or-set_other plans.by_number n k p _ e.0)) (coded.plan k)
+        plan = λ k. elim (at_upd (plan_of plans) n (Some p) k) [
+          | inl e ↦ subst (PlanFits capacity) (sym (ap (plan_of (with_plan plans n p)) e.0 ∙ get_or-set_same plans.by_number n (Some p) _ there)) f
+          | inr e ↦ subst (PlanFits capacity) (sym (get_or-set_other plans.by_number n k (Some p) _ e.0)) (coded.plan k)
         ];
       }

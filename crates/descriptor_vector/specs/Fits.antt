@@ -1,5 +1,5 @@
 -- A step leads to a stage in range.
-use Rattle.std.specs.Prelude.{◌≡◌, ℕ, zero, suc, ◌^◌, ◌<◌, ◌≤◌, Bool, true, false, cond, List, ◌==◌, nat_le, nat_lt, slice_index, refl}
+use Rattle.std.specs.Prelude.{◌≡◌, ℕ, zero, suc, ◌^◌, ◌<◌, ◌≤◌, Bool, true, false, cond, List, ◌==◌, nat_le, nat_lt, slice_index, refl, Some, None, Option}
 use Rattle.std.proofs.Common.{inl, inr, arith}
 use Rattle.std.proofs.lemmas.Bool.{cases_Bool, ltb-true, and_from, le-leb}
 use Rattle.vector.specs.declared.Op.{Op}
@@ -11,7 +11,7 @@ use Rattle.descriptor_steps.specs.declared.stage.Plans.{Plans}
 use Rattle.descriptor_steps.specs.Shared.{Cell, empty, plain, frozen, Status, pending, done, final, Shared, position, emptied_by, size_after, same_cell, is_pending}
 use Rattle.descriptor_steps.specs.Machine.{help, go_on, choose, Res, act, on_L1, on_L2, on_P1, on_G1, on_G2, on_G5, on_G5w, on_R1, on_R2, on_W1, on_W2}
 use Rattle.descriptor_steps.specs.Steps.{plan_of}
-use Rattle.linearization.specs.Names.{Plan, unplanned, pushing, popping, Then, own, to_L1, to_W1, Stage, L1, L2, L3, P1, L4, H1, H2, G1, G2, G3, G4, G5, G5w, G6, G7, O1, R1, R2, R3, W1, W2, W3}
+use Rattle.linearization.specs.Names.{Plan, pushing, popping, Then, own, to_L1, to_W1, Stage, L1, L2, L3, P1, L4, H1, H2, G1, G2, G3, G4, G5, G5w, G6, G7, O1, R1, R2, R3, W1, W2, W3}
 use Rattle.descriptor_vector.specs.View.{status_in, cell_in, view, PlanFits, Coded, ThenFits, StageFits, NextFits, OpFits}
 use Rattle.descriptor_vector.specs.Changes.{status_fits, cell_fits}
 use Rattle.descriptor_vector.specs.Stages.{plan_position, value_fits}
@@ -19,21 +19,21 @@ use Rattle.descriptor_vector.specs.Stages.{plan_position, value_fits}
 number_up : (c : ℕ) → suc c ≤ 400 → numbered (suc c) ≡ true
 number_up c h = and_from (nat_le 1 (suc c)) (nat_le (suc c) 400) (le-leb 1 (suc c) (omega arith)) (le-leb (suc c) 400 h)
 
-help_fits : (capacity c : ℕ) (p : Plan) (r : Then) → numbered c ≡ true → ThenFits capacity r → StageFits capacity (help c p r)
-help_fits capacity c unplanned r n f = tt
-help_fits capacity c (pushing p x e) r n f = (n, f)
-help_fits capacity c (popping p) r n f = (n, f)
+help_fits : (capacity c : ℕ) (p : Option Plan) (r : Then) → numbered c ≡ true → ThenFits capacity r → StageFits capacity (help c p r)
+help_fits capacity c None r n f = tt
+help_fits capacity c (Some (pushing p x e)) r n f = (n, f)
+help_fits capacity c (Some (popping p)) r n f = (n, f)
 
-go_on_fits : (capacity : ℕ) (p : Plan) (r : Then) → ThenFits capacity r → NextFits capacity (go_on p r)
-go_on_fits capacity unplanned own f = tt
-go_on_fits capacity (pushing p x e) own f = tt
-go_on_fits capacity (popping p) own f = tt
-go_on_fits capacity unplanned to_L1 f = tt
-go_on_fits capacity (pushing p x e) to_L1 f = tt
-go_on_fits capacity (popping p) to_L1 f = tt
-go_on_fits capacity unplanned (to_W1 i x) f = f
-go_on_fits capacity (pushing p y e) (to_W1 i x) f = f
-go_on_fits capacity (popping p) (to_W1 i x) f = f
+go_on_fits : (capacity : ℕ) (p : Option Plan) (r : Then) → ThenFits capacity r → NextFits capacity (go_on p r)
+go_on_fits capacity None own f = tt
+go_on_fits capacity (Some (pushing p x e)) own f = tt
+go_on_fits capacity (Some (popping p)) own f = tt
+go_on_fits capacity None to_L1 f = tt
+go_on_fits capacity (Some (pushing p x e)) to_L1 f = tt
+go_on_fits capacity (Some (popping p)) to_L1 f = tt
+go_on_fits capacity None (to_W1 i x) f = f
+go_on_fits capacity (Some (pushing p y e)) (to_W1 i x) f = f
+go_on_fits capacity (Some (popping p)) (to_W1 i x) f = f
 
 choose_fits : (capacity c s : ℕ) (op : Op ℕ) → c ≤ 400 → s ≤ capacity → OpFits capacity op → StageFits capacity (choose capacity c s op)
 choose_fits capacity c s (Push x) hc hs f =
@@ -44,10 +44,10 @@ choose_fits capacity c s Size hc hs f = hc
 choose_fits capacity c s (Read i) hc hs f = tt
 choose_fits capacity c s (Write i x) hc hs f = tt
 
-size_fits : (capacity : ℕ) (p : Plan) → PlanFits capacity p → size_after p ≤ capacity
-size_fits capacity unplanned f = omega arith
-size_fits capacity (pushing p x e) f = f.0
-size_fits capacity (popping p) f = omega arith
+size_fits : (capacity : ℕ) (p : Option Plan) → PlanFits capacity p → size_after p ≤ capacity
+size_fits capacity None f = omega arith
+size_fits capacity (Some (pushing p x e)) f = f.0
+size_fits capacity (Some (popping p)) f = omega arith
 
 cond_fits : (capacity : ℕ) (b : Bool) (x y : Res) → NextFits capacity x.nx → NextFits capacity y.nx → NextFits capacity (cond b x y).nx
 cond_fits capacity true x y p q = p
@@ -73,17 +73,17 @@ fits_G1 capacity c r (plain a) n h f = (n, h, f)
 fits_G1 capacity c r (frozen a k j) n h f =
     elim (cases_Bool (k == c)) [ inl b ↦ rw b (n, h, (f.0, n, f.2)) | inr b ↦ rw b (n, h, f) ]
 
-fits_G2 : (capacity c : ℕ) (p : Plan) (w : Cell) (r : Then) (v : Status) → numbered c ≡ true → ThenFits capacity r → CellFits w → NextFits capacity (on_G2 c p w r v)
+fits_G2 : (capacity c : ℕ) (p : Option Plan) (w : Cell) (r : Then) (v : Status) → numbered c ≡ true → ThenFits capacity r → CellFits w → NextFits capacity (on_G2 c p w r v)
 fits_G2 capacity c p w r pending n h f = go_on_fits capacity p r h
 fits_G2 capacity c p w r (done a) n h f = go_on_fits capacity p r h
 fits_G2 capacity c p w r (final a) n h f = (n, h, f)
 
-fits_G5 : (capacity c : ℕ) (p : Plan) (r : Then) (v : Status) → numbered c ≡ true → ThenFits capacity r → StatusFits v → NextFits capacity (on_G5 c p r v)
+fits_G5 : (capacity c : ℕ) (p : Option Plan) (r : Then) (v : Status) → numbered c ≡ true → ThenFits capacity r → StatusFits v → NextFits capacity (on_G5 c p r v)
 fits_G5 capacity c p r pending n h f = (n, h)
 fits_G5 capacity c p r (done a) n h f = (n, h, f)
 fits_G5 capacity c p r (final a) n h f = go_on_fits capacity p r h
 
-fits_G5w : (capacity c : ℕ) (p : Plan) (a j : ℕ) (r : Then) (v : Status) → numbered c ≡ true → ThenFits capacity r → CellFits (frozen a c j) → StatusFits v → NextFits capacity (on_G5w c p a j r v)
+fits_G5w : (capacity c : ℕ) (p : Option Plan) (a j : ℕ) (r : Then) (v : Status) → numbered c ≡ true → ThenFits capacity r → CellFits (frozen a c j) → StatusFits v → NextFits capacity (on_G5w c p a j r v)
 fits_G5w capacity c p a j r pending n h w f = (n, h)
 fits_G5w capacity c p a j r (done b) n h w f = (n, h, w, f)
 fits_G5w capacity c p a j r (final b) n h w f = go_on_fits capacity p r h
@@ -117,7 +117,7 @@ module _ (ws : List ℕ) (plans : Plans) (capacity : ℕ) (coded : Coded ws plan
   act_fits n op (L2 c) nn fo f = fits_L2 capacity (view ws plans capacity) op c (status_in ws c) refl f (coded.plan c) fo
   act_fits n op (L3 c a) nn fo f = cond_fits capacity (current_of (slice_index ws 0) == c) _ _ tt tt
   act_fits n op (P1 c m x) nn fo f = fits_P1 capacity c m x (cell_in ws m) f.0 f.1 f.2 (cell_fits ws plans capacity coded m f.1)
-  act_fits n op (L4 c p) nn fo f = cond_fits capacity (current_of (slice_index ws 0) == c) _ _ (help_fits capacity n p own nn tt) tt
+  act_fits n op (L4 c p) nn fo f = cond_fits capacity (current_of (slice_index ws 0) == c) _ _ (help_fits capacity n (Some p) own nn tt) tt
   act_fits n op (H1 c r) nn fo f = cond_fits capacity (same_cell (cell_in ws (position (plan_of plans c))) (empty (emptied_by (plan_of plans c)))) _ _ f f
   act_fits n op (H2 c r) nn fo f = go_on_fits capacity (plan_of plans c) r f.1
   act_fits n op (G1 c r) nn fo f = fits_G1 capacity c r (cell_in ws (position (plan_of plans c))) f.0 f.1 (cell_fits ws plans capacity coded (position (plan_of plans c)) (place c))

@@ -30,7 +30,7 @@ use Rattle.linearization.specs.Names.{Row, idle, open_at, Next, goto, end}
 use Rattle.descriptor_vector.specs.Calls.{needed, prepared, admitted, admit_rows, moves, settled, location_of, advance_rows, Granted, Prepares, Admits, Advances}
 use Rattle.descriptor_vector.specs.View.{StageFits, NextFits, OpFits, RowFits}
 use Rattle.descriptor_vector.specs.Sound.{memory_of, shown, Running, Sound}
-use Rattle.linearization.proofs.Tests.{no_way}
+use Rattle.linearization.proofs.Tests.{no_way, none_there}
 use Rattle.linearization.proofs.Begun.{all_idle}
 use Rattle.linearization.proofs.Linear.{starts, begins_so, steps_so, ends_in_time}
 use Rattle.vector.proofs.Preparing.{zeros_at, from_outside}
@@ -142,10 +142,6 @@ first_fits capacity (Read i) f = f
 first_fits capacity (Write i x) f = f
 first_fits capacity Size f = tt
 
-is_idle : (row : Row) → is_some row ≡ false → row ≡ idle
-is_idle None e = refl
-is_idle (Some w) e = no_way e
-
 module _ (T : Table) (W : List ℕ) (few : T.threads.count ≤ 8) (eight : length T.threads.rows ≡ 8) where
   granted_begin : (t : ℕ) (op : Op ℕ) → Sound T W → Small op → first_row (admit_rows T t op) ≡ None
       → Running (admitted T t op) W × ((shown (admitted T t op) W).meaning ≡ begun (shown T W).meaning t op)
@@ -163,7 +159,7 @@ module _ (T : Table) (W : List ℕ) (few : T.threads.count ≤ 8) (eight : lengt
       let given : T.threads.given < 400 = leb-false 400 T.threads.given p3.0 in
       let fits = op_fits T.threads.capacity op small (not-false (index_fits T.threads.capacity op) p4.0) in
       let numbered_next : numbered (suc T.threads.given) ≡ true = and_from (nat_le 1 (suc T.threads.given)) (nat_le (suc T.threads.given) 400) (le-leb 1 (suc T.threads.given) (omega arith)) (le-leb (suc T.threads.given) 400 given) in
-      let at_rest : task_of (rows_of T.threads) t ≡ idle = same_task T.threads.count T.threads.rows t high ∙ is_idle (task_of T.threads.rows t) p2.0 in
+      let at_rest : task_of (rows_of T.threads) t ≡ idle = same_task T.threads.count T.threads.rows t high ∙ none_there (task_of T.threads.rows t) p2.0 in
       let row : Row = open_at (suc T.threads.given) op (first op) in
       let rows : rows_of (admitted T t op).threads ≡ rows_begun (rows_of T.threads) T.threads.given t op = take-set-lt T.threads.count T.threads.rows (t - 1) row (omega arith) in
       let so = begins_so (memory_of T W) (rows_of T.threads) T.threads.given t op run.invariant low many at_rest (not-false (index_fits T.threads.capacity op) p4.0) in (

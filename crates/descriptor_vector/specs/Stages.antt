@@ -1,6 +1,6 @@
 -- Each stage of the code is that stage of the machine: where the words are coded and the stage is in range, what the one access
 -- leaves and leads to is what the machine does.
-use Rattle.std.specs.Prelude.{◌≡◌, ℕ, ◌^◌, ◌<◌, ◌≤◌, Bool, true, false, cond, List, length, ◌==◌, slice_index, slice_set, refl}
+use Rattle.std.specs.Prelude.{◌≡◌, ℕ, ◌^◌, ◌<◌, ◌≤◌, Bool, true, false, cond, List, length, ◌==◌, slice_index, slice_set, refl, Some, None, Option}
 use Rattle.std.proofs.Common.{sym, ap, ◌∙◌, subst, arith}
 use Rattle.memory.specs.declared.Swapped.TheVariants.{Yes, No}
 use Rattle.vector.specs.declared.Op.{Op}
@@ -15,7 +15,7 @@ use Rattle.descriptor_steps.specs.declared.stage.Plans.{Plans}
 use Rattle.descriptor_steps.specs.Shared.{Cell, empty, plain, frozen, Status, pending, done, final, Shared, position, pushed, emptied_by, value_in, set_cell, set_status, install, same_cell, same_done, is_pending, held}
 use Rattle.descriptor_steps.specs.Machine.{help, go_on, Res, quiet, serving, act, on_L2, on_G2, on_G5, on_G5w, on_R2, on_W2}
 use Rattle.descriptor_steps.specs.Steps.{plan_of, access, took, to, serves, installs, moved, plans_after}
-use Rattle.linearization.specs.Names.{Plan, unplanned, pushing, popping, own, Stage, L1, L2, L3, P1, L4, H1, H2, G1, G2, G3, G4, G5, G5w, G6, G7, O1, R1, R2, R3, W1, W2, W3, Next, goto, end}
+use Rattle.linearization.specs.Names.{Plan, pushing, popping, own, Stage, L1, L2, L3, P1, L4, H1, H2, G1, G2, G3, G4, G5, G5w, G6, G7, O1, R1, R2, R3, W1, W2, W3, Next, goto, end}
 use Rattle.descriptor_vector.specs.Calls.{finds, moves}
 use Rattle.descriptor_vector.specs.View.{status_in, cell_in, view, PlanFits, Coded, StageFits}
 use Rattle.descriptor_vector.specs.Looking as looking
@@ -28,20 +28,20 @@ pub record Does (words : List ℕ) (plans : Plans) (capacity : ℕ) (r : Res) (m
   pub served : m.served ≡ r.served
   pub coded : Coded words plans capacity
 
-pub plan_position : (capacity : ℕ) (p : Plan) → 0 < capacity → PlanFits capacity p → position p < capacity
-plan_position capacity unplanned h f = h
-plan_position capacity (pushing p x e) h f = f.0
-plan_position capacity (popping p) h f = f
+pub plan_position : (capacity : ℕ) (p : Option Plan) → 0 < capacity → PlanFits capacity p → position p < capacity
+plan_position capacity None h f = h
+plan_position capacity (Some (pushing p x e)) h f = f.0
+plan_position capacity (Some (popping p)) h f = f
 
-plan_by : (capacity : ℕ) (p : Plan) → PlanFits capacity p → emptied_by p ≤ 400
-plan_by capacity unplanned f = omega arith
-plan_by capacity (pushing p x e) f = f.2
-plan_by capacity (popping p) f = omega arith
+plan_by : (capacity : ℕ) (p : Option Plan) → PlanFits capacity p → emptied_by p ≤ 400
+plan_by capacity None f = omega arith
+plan_by capacity (Some (pushing p x e)) f = f.2
+plan_by capacity (Some (popping p)) f = omega arith
 
-plan_value : (capacity : ℕ) (p : Plan) → PlanFits capacity p → pushed p < 2 ^ 32
-plan_value capacity unplanned f = omega arith
-plan_value capacity (pushing p x e) f = f.1
-plan_value capacity (popping p) f = omega arith
+plan_value : (capacity : ℕ) (p : Option Plan) → PlanFits capacity p → pushed p < 2 ^ 32
+plan_value capacity None f = omega arith
+plan_value capacity (Some (pushing p x e)) f = f.1
+plan_value capacity (Some (popping p)) f = omega arith
 
 pub value_fits : (w : Cell) → CellFits w → value_in w < 2 ^ 32
 value_fits (empty k) f = omega arith
@@ -55,7 +55,7 @@ module _ (T : Table) (W : List ℕ) (n : ℕ) (op : Op ℕ) (coded : Coded W T.p
   abbrev V : Shared
   V = view W T.plans T.threads.capacity
 
-  abbrev plan : ℕ → Plan
+  abbrev plan : ℕ → Option Plan
   plan = plan_of T.plans
 
   place : (c : ℕ) → position (plan c) < T.threads.capacity
@@ -102,8 +102,8 @@ module _ (T : Table) (W : List ℕ) (n : ℕ) (op : Op ℕ) (coded : Coded W T.p
       (looking.still_cond V (current_of (slice_index W 0) == c) _ _ refl refl)
   does (P1 c m x) f = loads (act V n op (P1 c m x)) _ refl refl
   does (L4 c p) f =
-      swaps 0 c n (λ b. cond b (installs p (goto (help n p own))) (to (goto L1)))
-      (λ b. cond b (quiet (install V n p) (goto (help n p own))) (quiet V (goto L1)))
+      swaps 0 c n (λ b. cond b (installs p (goto (help n (Some p) own))) (to (goto L1)))
+      (λ b. cond b (quiet (install V n p) (goto (help n (Some p) own))) (quiet V (goto L1)))
       (current_of (slice_index W 0) == c) (current_test W P T.threads.capacity coded c)
       (record { memory = put_current W P T.threads.capacity coded n p own_number; next = refl; served = refl; coded = put_current_coded W P T.threads.capacity coded n p own_number f.1 })
       (stay (goto L1))

@@ -1,5 +1,5 @@
 -- The machine's memory, as the words of a memory, the plans and the capacity hold it; and when the words are those of such a memory.
-use Rattle.std.specs.Prelude.{◌≡◌, ℕ, ◌^◌, ◌<◌, ◌≤◌, true, cond, List, length, Some, None, slice_index, slice_index_or}
+use Rattle.std.specs.Prelude.{◌≡◌, ℕ, ◌^◌, ◌<◌, ◌≤◌, true, cond, List, length, Some, None, slice_index, slice_index_or, Option}
 use Rattle.vector.specs.declared.Op.{Op}
 use Rattle.vector.specs.declared.Op.TheVariants.{Push, Pop, Read, Write, Size}
 use Rattle.descriptor_words.specs.Words.{cell_word, cell_of, status_word, status_of, CellFits, StatusFits, numbered}
@@ -7,7 +7,7 @@ use Rattle.descriptor_words.specs.Accesses.{cell_at, current_of}
 use Rattle.descriptor_steps.specs.declared.stage.Plans.{Plans}
 use Rattle.descriptor_steps.specs.Shared.{Cell, Status, pending, Shared}
 use Rattle.descriptor_steps.specs.Steps.{plan_of}
-use Rattle.linearization.specs.Names.{Plan, unplanned, pushing, popping, Then, own, to_L1, to_W1, Stage, L1, L2, L3, P1, L4, H1, H2, G1, G2, G3, G4, G5, G5w, G6, G7, O1, R1, R2, R3, W1, W2, W3, Next, goto, end, Row}
+use Rattle.linearization.specs.Names.{Plan, pushing, popping, Then, own, to_L1, to_W1, Stage, L1, L2, L3, P1, L4, H1, H2, G1, G2, G3, G4, G5, G5w, G6, G7, O1, R1, R2, R3, W1, W2, W3, Next, goto, end, Row}
 use Rattle.descriptor_vector.specs.Calls.{needed}
 
 -- What the words say; who has no number from 1 to 400 is pending.
@@ -22,10 +22,10 @@ view words plans capacity =
     record { cur = current_of (slice_index words 0); status = status_in words; cell = cell_in words; plan = plan_of plans; cap = capacity }
 
 -- A plan in range: a position below the capacity, a 32-bit value, and the number of who emptied the cell.
-abbrev pub PlanFits : ℕ → Plan → Type 0
-PlanFits capacity unplanned = Unit {0}
-PlanFits capacity (pushing p x e) = (p < capacity) × (x < 2 ^ 32) × (e ≤ 400)
-PlanFits capacity (popping p) = p < capacity
+abbrev pub PlanFits : ℕ → Option Plan → Type 0
+PlanFits capacity None = Unit {0}
+PlanFits capacity (Some (pushing p x e)) = (p < capacity) × (x < 2 ^ 32) × (e ≤ 400)
+PlanFits capacity (Some (popping p)) = p < capacity
 
 -- The words are those of a number, of statuses and of cells, and there is room for all.
 pub record Coded (words : List ℕ) (plans : Plans) (capacity : ℕ) : Type 0 where
@@ -52,7 +52,7 @@ StageFits capacity L1 = Unit {0}
 StageFits capacity (L2 c) = numbered c ≡ true
 StageFits capacity (L3 c a) = c ≤ 400
 StageFits capacity (P1 c m x) = (c ≤ 400) × (m < capacity) × (x < 2 ^ 32)
-StageFits capacity (L4 c p) = (c ≤ 400) × PlanFits capacity p
+StageFits capacity (L4 c p) = (c ≤ 400) × PlanFits capacity (Some p)
 StageFits capacity (H1 c r) = (numbered c ≡ true) × ThenFits capacity r
 StageFits capacity (H2 c r) = (numbered c ≡ true) × ThenFits capacity r
 StageFits capacity (G1 c r) = (numbered c ≡ true) × ThenFits capacity r

@@ -1,5 +1,5 @@
 -- The steps that help a pop, G1 to G7, and O1, where a pop looks up its answer.
-use Rattle.std.proofs.Common.{◌≡◌, ℕ, suc, Bool, true, false, cond, eqb, ◌≢◌, ◌⊎◌, refl, ap, ◌∙◌, inl, inr, arith}
+use Rattle.std.proofs.Common.{◌≡◌, ℕ, suc, Bool, true, false, cond, eqb, ◌≢◌, ◌⊎◌, refl, ap, ◌∙◌, inl, inr, arith, Some}
 use Rattle.std.proofs.lemmas.Bool.{cases_Bool, eqb-true, eqb-false}
 use Rattle.vector.specs.Meaning.{served}
 use Rattle.vector.specs.declared.Answer.TheVariants.{Value}
@@ -30,7 +30,7 @@ module _ {s : Shared} {put : Puts} (g : Facts s put) (n : ℕ) (op : Op ℕ) (c 
       p : ℕ
       p = position (s.plan c)
 
-      pl : s.plan c ≡ popping p
+      pl : s.plan c ≡ Some (popping p)
       pl = pop_eta (s.plan c) l.here.1
 
       not_pending : (d : ℕ) → s.cell p ≡ empty d → (v : Status) → s.status c ≡ v → is_pending (s.status c) ≡ false
@@ -118,7 +118,7 @@ module _ {s : Shared} {put : Puts} (g : Facts s put) (n : ℕ) (op : Op ℕ) (c 
       p : ℕ
       p = position (s.plan c)
 
-      pl : s.plan c ≡ popping p
+      pl : s.plan c ≡ Some (popping p)
       pl = pop_eta (s.plan c) l.here.1
 
       go : (v : Status) → s.status c ≡ v → Outcome s put n op (cond (is_pending v) (serving (set_status s c (done a)) c (goto (G6 c a j a r))) (quiet s (goto (G5w c a j r))))
@@ -161,7 +161,7 @@ module _ {s : Shared} {put : Puts} (g : Facts s put) (n : ℕ) (op : Op ℕ) (c 
       p : ℕ
       p = position (s.plan c)
 
-      pl : s.plan c ≡ popping p
+      pl : s.plan c ≡ Some (popping p)
       pl = pop_eta (s.plan c) l.here.1
 
       cleared : s.cell p ≢ frozen a c j → is_done (s.status c) ≡ true → s.cell p ≡ empty c
@@ -183,7 +183,7 @@ module _ {s : Shared} {put : Puts} (g : Facts s put) (n : ℕ) (op : Op ℕ) (c 
       p : ℕ
       p = position (s.plan c)
 
-      pl : s.plan c ≡ popping p
+      pl : s.plan c ≡ Some (popping p)
       pl = pop_eta (s.plan c) l.here.1
 
       fr : Final s c → Free s put n

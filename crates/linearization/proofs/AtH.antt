@@ -1,5 +1,5 @@
 -- The steps that help a push: H1 fills its cell, H2 makes it final.
-use Rattle.std.proofs.Common.{◌≡◌, ℕ, Bool, true, false, cond, refl, inl, inr}
+use Rattle.std.proofs.Common.{◌≡◌, ℕ, Bool, true, false, cond, refl, inl, inr, Some}
 use Rattle.std.proofs.lemmas.Bool.{cases_Bool}
 use Rattle.vector.specs.Meaning.{served}
 use Rattle.vector.specs.declared.Answer.TheVariants.{Position}
@@ -29,7 +29,7 @@ module _ {s : Shared} {put : Puts} (g : Facts s put) (n : ℕ) (op : Op ℕ) (c 
       e : ℕ
       e = emptied_by (s.plan c)
 
-      pl : s.plan c ≡ pushing p x e
+      pl : s.plan c ≡ Some (pushing p x e)
       pl = push_eta (s.plan c) l.here.1
 
       go : (b : Bool) → same_cell (s.cell p) (empty e) ≡ b → Outcome s put n op (cond b (serving (set_cell s p (plain x)) c (goto (H2 c r))) (quiet s (goto (H2 c r))))
@@ -56,7 +56,7 @@ module _ {s : Shared} {put : Puts} (g : Facts s put) (n : ℕ) (op : Op ℕ) (c 
       e : ℕ
       e = emptied_by (s.plan c)
 
-      pl : s.plan c ≡ pushing p x e
+      pl : s.plan c ≡ Some (pushing p x e)
       pl = push_eta (s.plan c) l.here.1
 
       fr : Free s put n

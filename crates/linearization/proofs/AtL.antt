@@ -1,5 +1,5 @@
 -- The steps at L1, L2, L3, P1 and L4: look at the current operation, choose, answer or install.
-use Rattle.std.proofs.Common.{◌≡◌, ℕ, zero, suc, Bool, true, false, cond, eqb, ltb, ◌⊎◌, List, [], ◌∷◌, length, sym, refl, ◌∙◌, inl, inr, arith}
+use Rattle.std.proofs.Common.{◌≡◌, ℕ, zero, suc, Bool, true, false, cond, eqb, ltb, ◌⊎◌, List, [], ◌∷◌, length, sym, refl, ◌∙◌, inl, inr, arith, Some, None, Option, is_some}
 use Rattle.std.proofs.lemmas.Bool.{cases_Bool, eqb-true, ltb-true, ltb-false, le-ltb}
 use Rattle.vector.specs.Plain.{popped, after_pop}
 use Rattle.vector.specs.declared.Answer.{Answer}
@@ -7,11 +7,11 @@ use Rattle.vector.specs.declared.Answer.TheVariants.{Full, Empty}
 use Rattle.vector.specs.declared.Op.{Op}
 use Rattle.vector.specs.declared.Op.TheVariants.{Push, Pop, Read, Write, Size}
 use Rattle.linearization.specs.Invariant.{Facts}
-use Rattle.linearization.specs.Knowledge.{Puts, is_planned, Final, Settled, op_of, from_L1, Verdict, Ready, Helping, Knows, Thread}
+use Rattle.linearization.specs.Knowledge.{Puts, Final, Settled, op_of, from_L1, Verdict, Ready, Helping, Knows, Thread}
 use Rattle.descriptor_steps.specs.Machine.{quiet, serving, choose, help, on_L1, on_L2, on_P1, act}
 use Rattle.linearization.specs.Meaning.{size_now, items}
 use Rattle.descriptor_steps.specs.Shared.{Cell, empty, plain, frozen, Status, pending, done, final, Shared, install, is_final, size_after}
-use Rattle.linearization.specs.Names.{Then, own, to_L1, L1, L2, L3, P1, L4, goto, end, Plan, unplanned, pushing, popping}
+use Rattle.linearization.specs.Names.{Then, own, to_L1, L1, L2, L3, P1, L4, goto, end, Plan, pushing, popping}
 use Rattle.linearization.proofs.Consequences.{Plainly, is_current, settled_size}
 use Rattle.linearization.proofs.Install.{install_facts, install_follows, install_same}
 use Rattle.linearization.proofs.Outcomes.{Outcome, moves, unput_new, Free, free_from, free_thread, stay, says, free_after}
@@ -21,7 +21,7 @@ use Rattle.linearization.proofs.Values.{values_length}
 
 module _ {s : Shared} {put : Puts} (g : Facts s put) (n : ℕ) where
   -- choose, over a settled operation
-  pub choose_ok : (op : Op ℕ) (c m : ℕ) → s.plan n ≡ unplanned → from_L1 op ≡ true → Settled s c → m ≡ size_after (s.plan c) → Knows s put n op (choose s.cap c m op)
+  pub choose_ok : (op : Op ℕ) (c m : ℕ) → s.plan n ≡ None → from_L1 op ≡ true → Settled s c → m ≡ size_after (s.plan c) → Knows s put n op (choose s.cap c m op)
   choose_ok (Push x) c m u o t e = go (ltb m s.cap) refl
     where
       go : (b : Bool) → ltb m s.cap ≡ b → Knows s put n (Push x) (cond b (P1 c m x) (L3 c Full))
@@ -34,10 +34,10 @@ module _ {s : Shared} {put : Puts} (g : Facts s put) (n : ℕ) where
   choose_ok (Write i x) c m u o t e = no_way (sym o)
 
   -- to help c, which is not final
-  pub help_ok : (op : Op ℕ) (c : ℕ) (r : Then) → Free s put n → Helping s n op c r → (p : Plan) → s.plan c ≡ p → is_planned p ≡ true → is_final (s.status c) ≡ false → Knows s put n op (help c p r)
-  help_ok op c r f b unplanned e h u = no_way (sym h)
-  help_ok op c r f b (pushing p x d) e h u = (b, cc)
-  help_ok op c r f b (popping p) e h u = (b, cc, elim (f c) [ inl z ↦ z | inr z ↦ no_way (cc) ])
+  pub help_ok : (op : Op ℕ) (c : ℕ) (r : Then) → Free s put n → Helping s n op c r → (p : Option Plan) → s.plan c ≡ p → is_some p ≡ true → is_final (s.status c) ≡ false → Knows s put n op (help c p r)
+  help_ok op c r f b None e h u = no_way (sym h)
+  help_ok op c r f b (Some (pushing p x d)) e h u = (b, cc)
+  help_ok op c r f b (Some (popping p)) e h u = (b, cc, elim (f c) [ inl z ↦ z | inr z ↦ no_way (cc) ])
 
   pub at_L1 : (op : Op ℕ) → Thread s put n op L1 → Outcome s put n op (act s n op L1)
   at_L1 op l = go s.cur refl
@@ -46,10 +46,9 @@ module _ {s : Shared} {put : Puts} (g : Facts s put) (n : ℕ) where
       go zero e = stay g L1 l (inl refl) (choose s.cap 0 0 op) (choose_ok op 0 0 l.here.0 l.here.1 (inl refl) (let z = g.zero_unplanned in cc))
       go (suc k) e = stay g L1 l (inl refl) (L2 (suc k)) (l.here.0, l.here.1, planned (s.plan (suc k)) refl)
         where
-          planned : (p : Plan) → s.plan (suc k) ≡ p → is_planned (s.plan (suc k)) ≡ true
-          planned unplanned q = let z = g.current_planned (cc) in absurd (omega arith)
-          planned (pushing a x d) q = cc
-          planned (popping a) q = cc
+          planned : (p : Option Plan) → s.plan (suc k) ≡ p → is_some (s.plan (suc k)) ≡ true
+          planned None q = let z = g.current_planned (cc) in absurd (omega arith)
+          planned (Some p) q = cc
 
   pub at_L2 : (op : Op ℕ) (c : ℕ) → Thread s put n op (L2 c) → Outcome s put n op (act s n op (L2 c))
   at_L2 op c l = go (s.status c) refl
@@ -118,27 +117,25 @@ module _ {s : Shared} {put : Puts} (g : Facts s put) (n : ℕ) where
   pub at_L4 : (op : Op ℕ) (c : ℕ) (p : Plan) → Thread s put n op (L4 c p) → Outcome s put n op (act s n op (L4 c p))
   at_L4 op c p l = go (eqb s.cur c) refl
     where
-      fits : (p : Plan) → Ready s c p op → (op ≡ op_of p) × (is_planned p ≡ true)
-      fits unplanned r = absurd r
-      fits (pushing m x e) r = (r.0, refl)
-      fits (popping m) r = (r.0, refl)
+      fits : (p : Plan) → Ready s c p op → op ≡ op_of (Some p)
+      fits (pushing m x e) r = r.0
+      fits (popping m) r = r.0
 
-      next : (q : Plan) → p ≡ q → Knows (install s n p) put n op (help n q own)
-      next unplanned e = let z = (fits p l.here.3).1 in no_way (cc)
+      next : (q : Plan) → p ≡ q → Knows (install s n p) put n op (help n (Some q) own)
       next (pushing m x d) e =
           let z = fits p l.here.3 in
-          let y = upd_same s.plan n p in
+          let y = upd_same s.plan n (Some p) in
           ((refl, cc, cc), cc)
       next (popping m) e =
           let z = fits p l.here.3 in
-          let y = upd_same s.plan n p in
+          let y = upd_same s.plan n (Some p) in
           ((refl, cc, cc), cc, unput_new g n n l.here.0)
 
-      go : (b : Bool) → eqb s.cur c ≡ b → Outcome s put n op (cond b (quiet (install s n p) (goto (help n p own))) (quiet s (goto L1)))
+      go : (b : Bool) → eqb s.cur c ≡ b → Outcome s put n op (cond b (quiet (install s n p) (goto (help n (Some p) own))) (quiet s (goto L1)))
       go true h =
           let e = eqb-true s.cur c h in
           let gl = install_facts g n c p op l.number l.here.0 e l.here.2 l.here.3 in
           let fo = install_follows g n c p op l.number l.here.0 e l.here.2 l.here.3 in
           let sa = install_same g n c p op l.number l.here.0 e l.here.2 l.here.3 in
-          moves (record { facts = gl; follows = fo }) sa (free_thread gl l.number (free_after fo (free_from g (L4 c p) l (inl refl))) (help n p own) (next p refl))
+          moves (record { facts = gl; follows = fo }) sa (free_thread gl l.number (free_after fo (free_from g (L4 c p) l (inl refl))) (help n (Some p) own) (next p refl))
       go false h = stay g (L4 c p) l (inl refl) L1 (l.here.0, l.here.1)

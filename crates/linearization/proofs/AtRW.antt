@@ -1,6 +1,6 @@
 -- The steps of read and write: what stands in the cell, and for a frozen word the status of its pop, tell whether the index is
 -- below the size.
-use Rattle.std.proofs.Common.{◌≡◌, ℕ, suc, ◌<◌, ◌≤◌, Bool, true, false, cond, ltb, length, refl, inl, inr, arith}
+use Rattle.std.proofs.Common.{◌≡◌, ℕ, suc, ◌<◌, ◌≤◌, Bool, true, false, cond, ltb, length, refl, inl, inr, arith, None}
 use Rattle.std.proofs.lemmas.Bool.{cases_lt, le-ltb}
 use Rattle.vector.specs.declared.Answer.TheVariants.{Value, Out, Done}
 use Rattle.vector.specs.declared.Op.{Op}
@@ -10,7 +10,7 @@ use Rattle.linearization.specs.Knowledge.{Puts, freezing, Thread}
 use Rattle.descriptor_steps.specs.Machine.{quiet, serving, help, on_R1, on_R2, on_W1, on_W2, act}
 use Rattle.linearization.specs.Meaning.{size_now, items}
 use Rattle.descriptor_steps.specs.Shared.{Cell, empty, plain, frozen, Status, pending, done, final, Shared, set_cell, is_pending, is_final, is_pop, position, value_in, same_cell}
-use Rattle.linearization.specs.Names.{to_W1, Stage, R1, R2, R3, W1, W2, W3, goto, end, unplanned}
+use Rattle.linearization.specs.Names.{to_W1, Stage, R1, R2, R3, W1, W2, W3, goto, end}
 use Rattle.linearization.proofs.AtL.{help_ok}
 use Rattle.linearization.proofs.Consequences.{Plainly, pop_eta, is_current, replaceable_low}
 use Rattle.linearization.proofs.Outcomes.{Outcome, ends_now, free_from, stay, says}
@@ -43,7 +43,7 @@ module _ {s : Shared} {put : Puts} (g : Facts s put) (n : ℕ) (op : Op ℕ) whe
   pop_size k i h e (done b) u f = let a = is_current g k (pop_planned (s.plan k) h) (cc) in let d = pop_eta (s.plan k) h in cc
   pop_size k i h e (final b) u f = no_way f
 
-  seen : (x : Stage) → freezing x ≡ 0 → Thread s put n op x → (i : ℕ) → s.plan n ≡ unplanned → op ≡ Read i → i < s.cap → (w : Cell) → s.cell i ≡ w → Outcome s put n op (on_R1 s n i w)
+  seen : (x : Stage) → freezing x ≡ 0 → Thread s put n op x → (i : ℕ) → s.plan n ≡ None → op ≡ Read i → i < s.cap → (w : Cell) → s.cell i ≡ w → Outcome s put n op (on_R1 s n i w)
   seen x f l i u e b (empty k) h = says g Out u (read_out i e (empty_high i k h))
   seen x f l i u e b (plain a) h = says g (Value a) u (let z = reads i e (replaceable_low g i (plain a) h tt) in (cc, cc))
   seen x f l i u e b (frozen a k j) h = let z = g.frozen_by i a k j h in stay g x l (inl f) (R2 i a k j) (u, e, b, z.0, z.1, z.2)

@@ -9,7 +9,7 @@ use Rattle.linearization.specs.Invariant.{Facts, RowHolds, Invariant}
 use Rattle.linearization.specs.Knowledge.{unput, Puts, Knows, Thread}
 use Rattle.descriptor_steps.specs.Machine.{first}
 use Rattle.descriptor_steps.specs.Shared.{Shared, fresh}
-use Rattle.linearization.specs.Names.{Stage, Row, idle, open_at, unplanned}
+use Rattle.linearization.specs.Names.{Stage, Row, idle, open_at}
 use Rattle.linearization.proofs.Tests.{no_way}
 use Rattle.linearization.proofs.Threads.{number_in, at_row}
 
@@ -55,7 +55,7 @@ fresh_invariant c n =
       put_later = λ d j l. refl;
     }
 
-first_knows : (s : Shared) (put : Puts) (n : ℕ) (op : Op ℕ) → s.plan n ≡ unplanned → index_fits s.cap op ≡ true → Knows s put n op (first op)
+first_knows : (s : Shared) (put : Puts) (n : ℕ) (op : Op ℕ) → s.plan n ≡ None → index_fits s.cap op ≡ true → Knows s put n op (first op)
 first_knows s put n (Push x) u r = (u, refl)
 first_knows s put n Pop u r = (u, refl)
 first_knows s put n Size u r = (u, refl)

@@ -1,20 +1,20 @@
 -- G6 empties the cell of a pop. The word seen was put early, and once the pop is final it stands nowhere; so the pop is done, and
 -- the list, which ends below the cell, stays.
-use Rattle.std.proofs.Common.{◌≡◌, ℕ, Bool, true, false, refl, ap, inl, inr, true≢false, arith}
+use Rattle.std.proofs.Common.{◌≡◌, ℕ, Bool, true, false, refl, ap, inl, inr, true≢false, arith, Some, None, Option}
 use Rattle.std.proofs.lemmas.Bool.{cases_Bool}
 use Rattle.vector.specs.declared.Op.{Op}
 use Rattle.linearization.specs.Invariant.{Facts}
 use Rattle.linearization.specs.Knowledge.{early, Puts}
 use Rattle.linearization.specs.Meaning.{size_now, meant_of}
 use Rattle.descriptor_steps.specs.Shared.{empty, frozen, Status, pending, done, final, Shared, upd, set_cell, is_pending, is_final, held, is_push, is_pop, position, emptied_by, value_in}
-use Rattle.linearization.specs.Names.{Plan, unplanned, pushing, popping}
+use Rattle.linearization.specs.Names.{Plan, pushing, popping}
 use Rattle.linearization.proofs.Consequences.{SameMeaning, done_status, is_current}
 use Rattle.linearization.proofs.Follows.{Follows}
 use Rattle.linearization.proofs.Stable.{pop_planned}
 use Rattle.linearization.proofs.Tests.{no_way, upd_same, upd_other, at_upd}
 use Rattle.linearization.proofs.Values.{values_cong}
 
-module _ {s : Shared} {put : Puts} (g : Facts s put) (n c a j p : ℕ) (is_plan : s.plan c ≡ popping p) (put_it : put c j ≡ early a) (not_pending : is_pending (s.status c) ≡ false) (is_w : s.cell p ≡ frozen a c j) where
+module _ {s : Shared} {put : Puts} (g : Facts s put) (n c a j p : ℕ) (is_plan : s.plan c ≡ Some (popping p)) (put_it : put c j ≡ early a) (not_pending : is_pending (s.status c) ≡ false) (is_w : s.cell p ≡ frozen a c j) where
   abbrev pub after_clear : Shared
   after_clear = set_cell s p (empty c)
 
@@ -112,12 +112,12 @@ module _ {s : Shared} {put : Puts} (g : Facts s put) (n c a j p : ℕ) (is_plan 
             cc,
       )
     where
-      row : (k : ℕ) (op : Op ℕ) → (q : Plan) → s.plan k ≡ q → (v : Status) → s.status k ≡ v → meant_of after_clear k op ≡ meant_of s k op
-      row k op unplanned h v u = cc
-      row k op (popping b) h v u = cc
-      row k op (pushing b y d) h (final e) u = cc
-      row k op (pushing b y d) h pending u =
+      row : (k : ℕ) (op : Op ℕ) → (q : Option Plan) → s.plan k ≡ q → (v : Status) → s.status k ≡ v → meant_of after_clear k op ≡ meant_of s k op
+      row k op None h v u = cc
+      row k op (Some (popping b)) h v u = cc
+      row k op (Some (pushing b y d)) h (final e) u = cc
+      row k op (Some (pushing b y d)) h pending u =
           let cu = clear_cur in
           let x = g.others_final k (λ z. true≢false (cc)) (cc) in
           no_way (cc)
-      row k op (pushing b y d) h (done e) u = let x = g.push_undone k (cc) in no_way (cc)
+      row k op (Some (pushing b y d)) h (done e) u = let x = g.push_undone k (cc) in no_way (cc)

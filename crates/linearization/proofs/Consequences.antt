@@ -1,15 +1,15 @@
 -- Facts that follow from the invariant: who is current, what stands in the cell of a pop that is done, the size under a settled
 -- operation, and that a replaceable word stands below the size.
-use Rattle.std.proofs.Common.{◌≡◌, ℕ, ◌<◌, true, false, ◌⊎◌, sym, refl, inl, inr}
+use Rattle.std.proofs.Common.{◌≡◌, ℕ, ◌<◌, true, false, ◌⊎◌, sym, refl, inl, inr, Some, None, Option, is_some}
 use Rattle.std.proofs.lemmas.Bool.{cases_eq, cases_lt}
 use Rattle.vector.specs.Plain.{answer, after}
 use Rattle.vector.specs.declared.Answer.{Answer}
 use Rattle.vector.specs.declared.Op.{Op}
 use Rattle.linearization.specs.Invariant.{is_empty, Facts}
-use Rattle.linearization.specs.Knowledge.{early, Puts, is_done, is_planned, Final, Settled, Replaceable}
+use Rattle.linearization.specs.Knowledge.{early, Puts, is_done, Final, Settled, Replaceable}
 use Rattle.linearization.specs.Meaning.{effected, size_now, items, meant_of}
 use Rattle.descriptor_steps.specs.Shared.{Cell, empty, plain, frozen, Status, pending, done, final, Shared, is_pending, is_final, held, is_push, is_pop, position, pushed, emptied_by, size_after, same_cell}
-use Rattle.linearization.specs.Names.{Plan, unplanned, pushing, popping}
+use Rattle.linearization.specs.Names.{Plan, pushing, popping}
 use Rattle.linearization.proofs.Stable.{not_both}
 use Rattle.linearization.proofs.Tests.{no_way}
 
@@ -42,15 +42,15 @@ final_status (done a) h k = no_way h
 final_status (final a) h k = refl
 
 -- a push and a pop by their parts
-pub push_eta : (q : Plan) → is_push q ≡ true → q ≡ pushing (position q) (pushed q) (emptied_by q)
-push_eta unplanned h = no_way (sym h)
-push_eta (pushing p x e) h = refl
-push_eta (popping p) h = no_way (sym h)
+pub push_eta : (q : Option Plan) → is_push q ≡ true → q ≡ Some (pushing (position q) (pushed q) (emptied_by q))
+push_eta None h = no_way (sym h)
+push_eta (Some (pushing p x e)) h = refl
+push_eta (Some (popping p)) h = no_way (sym h)
 
-pub pop_eta : (q : Plan) → is_pop q ≡ true → q ≡ popping (position q)
-pop_eta unplanned h = no_way (sym h)
-pop_eta (pushing p x e) h = no_way (sym h)
-pop_eta (popping p) h = refl
+pub pop_eta : (q : Option Plan) → is_pop q ≡ true → q ≡ Some (popping (position q))
+pop_eta None h = no_way (sym h)
+pop_eta (Some (pushing p x e)) h = no_way (sym h)
+pop_eta (Some (popping p)) h = refl
 
 -- a word that may be replaced is not empty, and not frozen by a pop that is not final
 pub replaceable_full : (s : Shared) (w : Cell) → Replaceable s w → is_empty w ≡ false
@@ -65,7 +65,7 @@ replaceable_final s (frozen b k i) o a c j e = let q : k ≡ c = cc in cc
 
 module _ {s : Shared} {put : Puts} (g : Facts s put) where
   -- an installed operation that is not final is the current one
-  pub is_current : (k : ℕ) → is_planned (s.plan k) ≡ true → is_final (s.status k) ≡ false → k ≡ s.cur
+  pub is_current : (k : ℕ) → is_some (s.plan k) ≡ true → is_final (s.status k) ≡ false → k ≡ s.cur
   is_current k p h = elim (cases_eq k s.cur) [ inl e ↦ e | inr e ↦ let x = g.others_final k e p in no_way (cc) ]
 
   -- the cell of a pop that is done
@@ -84,18 +84,16 @@ module _ {s : Shared} {put : Puts} (g : Facts s put) where
   pub settled_size : Settled s s.cur → (size_now s ≡ size_after (s.plan s.cur)) × (is_done (s.status s.cur) ≡ false)
   settled_size h = go h (s.plan s.cur) refl (s.status s.cur) refl
     where
-      go : Settled s s.cur → (p : Plan) → s.plan s.cur ≡ p → (v : Status) → s.status s.cur ≡ v → (size_now s ≡ size_after (s.plan s.cur)) × (is_done (s.status s.cur) ≡ false)
+      go : Settled s s.cur → (p : Option Plan) → s.plan s.cur ≡ p → (v : Status) → s.status s.cur ≡ v → (size_now s ≡ size_after (s.plan s.cur)) × (is_done (s.status s.cur) ≡ false)
       go (inl e) p q v u =
           let z = g.zero_unplanned in
           let y = zero_pending in
           (cc, cc)
-      go (inr e) unplanned q v u = let z = g.unplanned_pending s.cur q in no_way (cc)
-      go (inr e) (pushing a b d) q (final w) u = (cc, cc)
-      go (inr e) (popping a) q (final w) u = (cc, cc)
-      go (inr e) (pushing a b d) q pending u = no_way (cc)
-      go (inr e) (popping a) q pending u = no_way (cc)
-      go (inr e) (pushing a b d) q (done w) u = no_way (cc)
-      go (inr e) (popping a) q (done w) u = no_way (cc)
+      go (inr e) None q v u = let z = g.unplanned_pending s.cur q in no_way (cc)
+      go (inr e) (Some (pushing a b d)) q (final w) u = (cc, cc)
+      go (inr e) (Some (popping a)) q (final w) u = (cc, cc)
+      go (inr e) (Some p) q pending u = no_way (cc)
+      go (inr e) (Some p) q (done w) u = no_way (cc)
 
   -- a word that may be replaced stands below the size
   pub replaceable_low : (i : ℕ) (w : Cell) → s.cell i ≡ w → Replaceable s w → i < size_now s
@@ -113,10 +111,10 @@ full_not_empty (empty k) e h = no_way h
 full_not_empty (plain a) e h = refl
 full_not_empty (frozen a k j) e h = refl
 
-pub effected_full : (p : Plan) (v : Status) (w u : Cell) → is_empty w ≡ false → is_empty u ≡ false → effected p v w ≡ effected p v u
-effected_full unplanned v w u h k = refl
-effected_full (pushing a x e) v w u h k =
+pub effected_full : (p : Option Plan) (v : Status) (w u : Cell) → is_empty w ≡ false → is_empty u ≡ false → effected p v w ≡ effected p v u
+effected_full None v w u h k = refl
+effected_full (Some (pushing a x e)) v w u h k =
     let y = full_not_empty w e h in
     let z = full_not_empty u e k in
     cc
-effected_full (popping a) v w u h k = refl
+effected_full (Some (popping a)) v w u h k = refl

@@ -1,17 +1,17 @@
 -- While no other installed operation is open, each step of a thread leads to a stage of lower rank, or to its end.
-use Rattle.std.proofs.Common.{◌≡◌, ℕ, zero, suc, ◌+◌, ◌<◌, Bool, true, false, cond, eqb, ltb, sym, refl, ◌∙◌, inl, inr, arith}
+use Rattle.std.proofs.Common.{◌≡◌, ℕ, zero, suc, ◌+◌, ◌<◌, Bool, true, false, cond, eqb, ltb, sym, refl, ◌∙◌, inl, inr, arith, Some, None, Option, is_some}
 use Rattle.std.proofs.lemmas.Bool.{eqb-true, eq-eqb}
 use Rattle.vector.specs.declared.Answer.{Answer}
 use Rattle.vector.specs.declared.Answer.TheVariants.{Value, Full, Done}
 use Rattle.vector.specs.declared.Op.{Op}
 use Rattle.vector.specs.declared.Op.TheVariants.{Push, Pop, Read, Write, Size}
 use Rattle.linearization.specs.Invariant.{is_empty, Facts}
-use Rattle.linearization.specs.Knowledge.{Puts, is_planned, Settled, from_L1, Ready, Thread}
+use Rattle.linearization.specs.Knowledge.{Puts, Settled, from_L1, Ready, Thread}
 use Rattle.linearization.specs.Left.{rest, stands, rank}
 use Rattle.descriptor_steps.specs.Machine.{Res, quiet, serving, choose, help, go_on, on_L1, on_L2, on_P1, on_G1, on_G2, on_G5, on_G5w, on_R1, on_R2, on_W1, on_W2, act}
 use Rattle.linearization.specs.Meaning.{size_now}
 use Rattle.descriptor_steps.specs.Shared.{Cell, empty, plain, frozen, Status, pending, done, final, Shared, set_cell, set_status, install, is_pending, is_final, position, pushed, emptied_by, size_after, value_in, same_cell, same_done}
-use Rattle.linearization.specs.Names.{Then, own, to_L1, to_W1, Stage, L1, L2, L3, P1, L4, H1, H2, G1, G2, G3, G4, G5, G5w, G6, G7, O1, R1, R2, R3, W1, W2, W3, Next, goto, end, Plan, unplanned, pushing, popping}
+use Rattle.linearization.specs.Names.{Then, own, to_L1, to_W1, Stage, L1, L2, L3, P1, L4, H1, H2, G1, G2, G3, G4, G5, G5w, G6, G7, O1, R1, R2, R3, W1, W2, W3, Next, goto, end, Plan, pushing, popping}
 use Rattle.linearization.proofs.Consequences.{settled_size}
 use Rattle.linearization.proofs.Stable.{pop_planned, push_planned}
 use Rattle.linearization.proofs.Tests.{no_way, same_cell_refl}
@@ -24,10 +24,10 @@ Below m s (end a) = 0 < m
 abbrev pub Falls : ℕ → Res → Type 0
 Falls m r = Below m r.sh r.nx
 
-go_on_falls : (s : Shared) (m : ℕ) (p : Plan) (r : Then) → is_planned p ≡ true → rest r < m → Below m s (go_on p r)
-go_on_falls s m unplanned own e h = no_way (sym e)
-go_on_falls s m (pushing q x d) own e h = omega arith
-go_on_falls s m (popping q) own e h = h
+go_on_falls : (s : Shared) (m : ℕ) (p : Option Plan) (r : Then) → is_some p ≡ true → rest r < m → Below m s (go_on p r)
+go_on_falls s m None own e h = no_way (sym e)
+go_on_falls s m (Some (pushing q x d)) own e h = omega arith
+go_on_falls s m (Some (popping q)) own e h = h
 go_on_falls s m p to_L1 e h = h
 go_on_falls s m p (to_W1 i x) e h = h
 
@@ -50,7 +50,7 @@ choose_falls s c m (Write i x) n b o h = no_way (sym o)
 
 -- no other operation is installed and not final
 abbrev pub Solo : Shared → ℕ → Type 0
-Solo s n = (k : ℕ) → is_planned (s.plan k) ≡ true → is_final (s.status k) ≡ false → k ≡ n
+Solo s n = (k : ℕ) → is_some (s.plan k) ≡ true → is_final (s.status k) ≡ false → k ≡ n
 
 module _ {s : Shared} {put : Puts} (g : Facts s put) (n : ℕ) (op : Op ℕ) (solo : Solo s n) where
   fall_L1 : Thread s put n op L1 → Falls 12 (act s n op L1)
@@ -105,12 +105,11 @@ module _ {s : Shared} {put : Puts} (g : Facts s put) (n : ℕ) (op : Op ℕ) (so
   fall_L4 : (c : ℕ) (p : Plan) → Thread s put n op (L4 c p) → Falls (rank s (L4 c p)) (act s n op (L4 c p))
   fall_L4 c p l = go (eqb s.cur c) refl
     where
-      helping : (q : Plan) → Ready s c q op → rank (install s n p) (help n q own) < 9
-      helping unplanned r = absurd r
+      helping : (q : Plan) → Ready s c q op → rank (install s n p) (help n (Some q) own) < 9
       helping (pushing m x d) r = omega arith
       helping (popping m) r = omega arith
 
-      go : (b : Bool) → eqb s.cur c ≡ b → Falls (rank s (L4 c p)) (cond b (quiet (install s n p) (goto (help n p own))) (quiet s (goto L1)))
+      go : (b : Bool) → eqb s.cur c ≡ b → Falls (rank s (L4 c p)) (cond b (quiet (install s n p) (goto (help n (Some p) own))) (quiet s (goto L1)))
       go true h = rw h (helping p l.here.3)
       go false h = rw h (omega arith)
 
@@ -145,7 +144,7 @@ module _ {s : Shared} {put : Puts} (g : Facts s put) (n : ℕ) (op : Op ℕ) (so
   fall_G2 : (c a k j : ℕ) (r : Then) → Thread s put n op (G2 c a k j r) → Falls (rank s (G2 c a k j r)) (act s n op (G2 c a k j r))
   fall_G2 c a k j r l = go (s.status k) (stands s c (frozen a k j)) refl
     where
-      pl : is_planned (s.plan c) ≡ true
+      pl : is_some (s.plan c) ≡ true
       pl = pop_planned (s.plan c) l.here.1
 
       go : (v : Status) (b : Bool) → stands s c (frozen a k j) ≡ b → Below (rank s (G2 c a k j r)) s (on_G2 c (s.plan c) (frozen a k j) r v)

@@ -1,22 +1,22 @@
 -- H1 fills the cell of a push. A final push never again sees its cell as it found it, so the push is pending and current, and
 -- takes effect now.
-use Rattle.std.proofs.Common.{◌≡◌, ℕ, suc, ◌<◌, Bool, true, false, ◌≢◌, length, sym, refl, ap, inl, inr, arith}
+use Rattle.std.proofs.Common.{◌≡◌, ℕ, suc, ◌<◌, Bool, true, false, ◌≢◌, length, sym, refl, ap, inl, inr, arith, Some, None, Option, is_some}
 use Rattle.std.proofs.lemmas.Bool.{cases_Bool, lt-ltb}
 use Rattle.vector.specs.Meaning.{waiting, served}
 use Rattle.vector.specs.declared.Answer.TheVariants.{Position}
 use Rattle.vector.specs.declared.Op.{Op}
 use Rattle.vector.specs.declared.Op.TheVariants.{Push}
 use Rattle.linearization.specs.Invariant.{Facts}
-use Rattle.linearization.specs.Knowledge.{Puts, is_done, is_planned, Final}
+use Rattle.linearization.specs.Knowledge.{Puts, is_done, Final}
 use Rattle.linearization.specs.Meaning.{size_now, items, meant_of}
 use Rattle.descriptor_steps.specs.Shared.{empty, plain, frozen, Status, pending, done, final, Shared, upd, set_cell, is_final, position, emptied_by, value_in}
-use Rattle.linearization.specs.Names.{Plan, unplanned, pushing, popping}
+use Rattle.linearization.specs.Names.{Plan, pushing, popping}
 use Rattle.linearization.proofs.Consequences.{Plainly, pending_status, is_current}
 use Rattle.linearization.proofs.Follows.{Follows}
-use Rattle.linearization.proofs.Tests.{no_way, upd_same, upd_other, same_cell_refl, at_upd}
+use Rattle.linearization.proofs.Tests.{none_there, no_way, upd_same, upd_other, same_cell_refl, at_upd}
 use Rattle.linearization.proofs.Values.{values_length, values_cong}
 
-module _ {s : Shared} {put : Puts} (g : Facts s put) (n c p x e : ℕ) (is_plan : s.plan c ≡ pushing p x e) (is_e : s.cell p ≡ empty e) where
+module _ {s : Shared} {put : Puts} (g : Facts s put) (n c p x e : ℕ) (is_plan : s.plan c ≡ Some (pushing p x e)) (is_e : s.cell p ≡ empty e) where
   abbrev pub after_fill : Shared
   after_fill = set_cell s p (plain x)
 
@@ -57,20 +57,15 @@ module _ {s : Shared} {put : Puts} (g : Facts s put) (n c p x e : ℕ) (is_plan 
   none_done d h =
       let a = fill_pending in
       let b = fill_cur in
-      elim (cases_Bool (is_planned (s.plan d))) [
+      elim (cases_Bool (is_some (s.plan d))) [
         | inl y ↦ let z = is_current g d y (open_done (s.status d) h) in cc
-        | inr y ↦ let z = g.unplanned_pending d (not_plan (s.plan d) y) in cc
+        | inr y ↦ let z = g.unplanned_pending d (none_there (s.plan d) y) in cc
       ]
     where
       open_done : (v : Status) → is_done v ≡ true → is_final v ≡ false
       open_done pending h = refl
       open_done (done b) h = refl
       open_done (final b) h = sym h
-
-      not_plan : (q : Plan) → is_planned q ≡ false → q ≡ unplanned
-      not_plan unplanned h = refl
-      not_plan (pushing a b d) h = no_way h
-      not_plan (popping a) h = no_way h
 
   pub fill_facts : Facts after_fill put
   fill_facts =
@@ -118,22 +113,21 @@ module _ {s : Shared} {put : Puts} (g : Facts s put) (n c p x e : ℕ) (is_plan 
   -- the other rows mean what they meant
   pub fill_rows : (k : ℕ) (op : Op ℕ) → k ≢ c → meant_of after_fill k op ≡ meant_of s k op
   fill_rows k op ne =
-      elim (cases_Bool (is_planned (s.plan k))) [
+      elim (cases_Bool (is_some (s.plan k))) [
         | inl y ↦ fin_row (s.plan k) refl (s.status k) refl (g.others_final k (λ q. ne (let cu = fill_cur in cc)) y)
         | inr y ↦ none_row (s.plan k) refl y
       ]
     where
-      none_row : (q : Plan) → s.plan k ≡ q → is_planned (s.plan k) ≡ false → meant_of after_fill k op ≡ meant_of s k op
-      none_row unplanned h y = cc
-      none_row (pushing a b d) h y = no_way (cc)
-      none_row (popping a) h y = no_way (cc)
+      none_row : (q : Option Plan) → s.plan k ≡ q → is_some (s.plan k) ≡ false → meant_of after_fill k op ≡ meant_of s k op
+      none_row None h y = cc
+      none_row (Some p) h y = no_way (cc)
 
-      fin_row : (q : Plan) → s.plan k ≡ q → (v : Status) → s.status k ≡ v → Final s k → meant_of after_fill k op ≡ meant_of s k op
+      fin_row : (q : Option Plan) → s.plan k ≡ q → (v : Status) → s.status k ≡ v → Final s k → meant_of after_fill k op ≡ meant_of s k op
       fin_row q h pending u f = no_way (cc)
       fin_row q h (done b) u f = no_way (cc)
-      fin_row unplanned h (final b) u f = cc
-      fin_row (pushing a y d) h (final b) u f = cc
-      fin_row (popping a) h (final b) u f = cc
+      fin_row None h (final b) u f = cc
+      fin_row (Some (pushing a y d)) h (final b) u f = cc
+      fin_row (Some (popping a)) h (final b) u f = cc
 
   pub fill_waits : (op : Op ℕ) → meant_of s c op ≡ waiting op c
   fill_waits op =

@@ -1,15 +1,14 @@
 -- What a step of the thread with number n may do to the memory, as the other threads see it: the one thing that each change of
 -- memory is measured by, and all that a thread's knowledge rests on.
-use Rattle.std.proofs.Common.{◌≡◌, ℕ, true, ◌≢◌, ◌⊎◌}
+use Rattle.std.proofs.Common.{◌≡◌, ℕ, true, ◌≢◌, ◌⊎◌, None}
 use Rattle.linearization.specs.Knowledge.{unput, Puts, is_done, Settled}
 use Rattle.descriptor_steps.specs.Shared.{empty, pending, final, Shared, held, is_push, is_pop, position, emptied_by}
-use Rattle.linearization.specs.Names.{unplanned}
 
 pub record Follows (n : ℕ) (s : Shared) (put : Puts) (s' : Shared) (put' : Puts) : Type 0 where
   -- the capacity stays
   pub caps : s'.cap ≡ s.cap
   -- a plan stays; only n's own is new
-  pub plans : (k : ℕ) → (s'.plan k ≡ s.plan k) ⊎ ((k ≡ n) × (s.plan k ≡ unplanned))
+  pub plans : (k : ℕ) → (s'.plan k ≡ s.plan k) ⊎ ((k ≡ n) × (s.plan k ≡ None))
   -- a word put stays put; a new one is put through n
   pub puts : (c j : ℕ) → (put' c j ≡ put c j) ⊎ ((j ≡ n) × (put c j ≡ unput))
   -- a status goes on from pending, or from done to final with the same value

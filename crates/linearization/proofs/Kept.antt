@@ -1,14 +1,14 @@
 -- Every step keeps the invariant: the memory's facts by its kind of change, the stepping thread's knowledge by its outcome, and
 -- every other thread's by what the change follows.
-use Rattle.std.proofs.Common.{◌≡◌, ℕ, ◌-◌, ◌≤◌, true, false, ◌≢◌, ◌⊎◌, List, set, sym, refl, ap, ◌∙◌, inl, inr, arith, Some, None}
+use Rattle.std.proofs.Common.{◌≡◌, ℕ, ◌-◌, ◌≤◌, true, false, ◌≢◌, ◌⊎◌, List, set, sym, refl, ap, ◌∙◌, inl, inr, arith, Some, None, is_some}
 use Rattle.std.proofs.lemmas.Bool.{cases_eq, cases_Bool}
 use Rattle.vector.specs.declared.Op.{Op}
 use Rattle.vector.specs.Threads.{task_of}
 use Rattle.linearization.specs.Invariant.{RowHolds, Invariant}
-use Rattle.linearization.specs.Knowledge.{Puts, is_planned, Final, Thread}
+use Rattle.linearization.specs.Knowledge.{Puts, Final, Thread}
 use Rattle.descriptor_steps.specs.Machine.{Res, act, row_after}
 use Rattle.descriptor_steps.specs.Shared.{Shared, is_final}
-use Rattle.linearization.specs.Names.{Stage, Next, goto, end, Row, idle, open_at, unplanned}
+use Rattle.linearization.specs.Names.{Stage, Next, goto, end, Row, idle, open_at}
 use Rattle.linearization.proofs.EveryStep.{outcome}
 use Rattle.linearization.proofs.Outcomes.{Changed, Outcome, moves, helps, ends, ends_now}
 use Rattle.linearization.proofs.Stable.{plan_other, final_stays, thread_kept}
@@ -18,7 +18,7 @@ use Rattle.linearization.proofs.Threads.{number_in, at_row, open_thread}
 -- where a step leaves its thread: at a stage, or ended, and then its number is not installed or final
 abbrev pub NextHolds : Shared → Puts → ℕ → Op ℕ → Next → Type 0
 NextHolds s put n op (goto x) = Thread s put n op x
-NextHolds s put n op (end a) = (s.plan n ≡ unplanned) ⊎ Final s n
+NextHolds s put n op (end a) = (s.plan n ≡ None) ⊎ Final s n
 
 module _ {s : Shared} {rows : List Row} {given : ℕ} (i : Invariant s rows given) (t n : ℕ) (op : Op ℕ) (x : Stage) (is_row : task_of rows t ≡ open_at n op x) where
   pub row_thread : Thread s i.put n op x × (n ≤ given)
@@ -61,14 +61,14 @@ module _ {s : Shared} {rows : List Row} {given : ℕ} (i : Invariant s rows give
           ]
         ]
 
-    own_after : (r : Next) → NextHolds s' put' n op r → is_planned (s'.plan n) ≡ true → is_final (s'.status n) ≡ false → (u : ℕ) × (o : Op ℕ) × (y : Stage) × (task_of (set rows (t - 1) (row_after n op r)) u ≡ open_at n o y)
+    own_after : (r : Next) → NextHolds s' put' n op r → is_some (s'.plan n) ≡ true → is_final (s'.status n) ≡ false → (u : ℕ) × (o : Op ℕ) × (y : Stage) × (task_of (set rows (t - 1) (row_after n op r)) u ≡ open_at n o y)
     own_after (goto y) h p f = (t, op, y, elim (at_next (open_at n op y) t) [ inl e ↦ e.1 | inr e ↦ absurd (e.0 refl) ])
     own_after (end a) h p f = elim h [ inl e ↦ no_way (cc) | inr e ↦ no_way (cc) ]
 
     was_open : (k : ℕ) → is_final (s'.status k) ≡ false → is_final (s.status k) ≡ false
     was_open k h = elim (cases_Bool (is_final (s.status k))) [ inl e ↦ let z = final_stays ch.follows k e in no_way (cc) | inr e ↦ e ]
 
-    owned_after : (r : Next) → NextHolds s' put' n op r → (k : ℕ) → is_planned (s'.plan k) ≡ true → is_final (s'.status k) ≡ false → (u : ℕ) × (o : Op ℕ) × (y : Stage) × (task_of (set rows (t - 1) (row_after n op r)) u ≡ open_at k o y)
+    owned_after : (r : Next) → NextHolds s' put' n op r → (k : ℕ) → is_some (s'.plan k) ≡ true → is_final (s'.status k) ≡ false → (u : ℕ) × (o : Op ℕ) × (y : Stage) × (task_of (set rows (t - 1) (row_after n op r)) u ≡ open_at k o y)
     owned_after r h k p f =
         elim (cases_eq k n) [
           | inl e ↦ let z = own_after r h (cc) (cc) in (z.0, z.1, z.2, let q = z.3 in cc)

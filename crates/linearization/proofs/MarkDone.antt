@@ -17,7 +17,7 @@ use Rattle.linearization.proofs.Follows.{Follows}
 use Rattle.linearization.proofs.Tests.{no_way, upd_same, upd_other, at_upd}
 use Rattle.linearization.proofs.Values.{values_length, values_nth, values_take}
 
-module _ {s : Shared} {put : Puts} (g : Facts s put) (n c p a j : ℕ) (is_plan : s.plan c ≡ popping p) (is_pend : s.status c ≡ pending) (put_it : put c j ≡ early a) where
+module _ {s : Shared} {put : Puts} (g : Facts s put) (n c p a j : ℕ) (is_plan : s.plan c ≡ Some (popping p)) (is_pend : s.status c ≡ pending) (put_it : put c j ≡ early a) where
   abbrev pub after_mark : Shared
   after_mark = set_status s c (done a)
 

@@ -1,16 +1,16 @@
 -- What a step comes to: the thread moves on, serves an installed operation, ends one served before, or serves and ends its own at
 -- once; in each case with the memory changed as others may see it.
-use Rattle.std.proofs.Common.{◌≡◌, ℕ, true, false, ◌≢◌, ◌⊎◌, sym, refl, ◌∙◌, inl, inr, arith}
+use Rattle.std.proofs.Common.{◌≡◌, ℕ, true, false, ◌≢◌, ◌⊎◌, sym, refl, ◌∙◌, inl, inr, arith, Some, None, Option, is_some}
 use Rattle.vector.specs.Meaning.{waiting, served}
 use Rattle.vector.specs.declared.Answer.{Answer}
 use Rattle.vector.specs.declared.Answer.TheVariants.{Position}
 use Rattle.vector.specs.declared.Op.{Op}
 use Rattle.linearization.specs.Invariant.{Facts}
-use Rattle.linearization.specs.Knowledge.{Put, unput, early, late, Puts, is_planned, Final, op_of, Helping, Knows, freezing, Thread}
+use Rattle.linearization.specs.Knowledge.{Put, unput, early, late, Puts, Final, op_of, Helping, Knows, freezing, Thread}
 use Rattle.descriptor_steps.specs.Machine.{Res, quiet, serving, go_on}
 use Rattle.linearization.specs.Meaning.{meant_of}
 use Rattle.descriptor_steps.specs.Shared.{Shared, is_final, is_push, is_pop, position}
-use Rattle.linearization.specs.Names.{Then, own, to_L1, to_W1, Stage, L1, O1, W1, goto, end, Plan, unplanned, pushing, popping}
+use Rattle.linearization.specs.Names.{Then, own, to_L1, to_W1, Stage, L1, O1, W1, goto, end, Plan, pushing, popping}
 use Rattle.linearization.proofs.Consequences.{SameMeaning, Plainly}
 use Rattle.linearization.proofs.Follows.{Follows}
 use Rattle.linearization.proofs.Stable.{final_stays}
@@ -27,13 +27,13 @@ pub data Outcome (s : Shared) (put : Puts) (n : ℕ) (op : Op ℕ) : Res → Typ
   moves : {s' : Shared} {put' : Puts} {x : Stage} → Changed n s put s' put' → SameMeaning s s' → Thread s' put' n op x → Outcome s put n op (quiet s' (goto x))
   -- it goes on, and the installed operation c has taken effect, as the plain vector takes it
   helps : {s' : Shared} {put' : Puts} {x : Stage} {c : ℕ} (a : Answer ℕ) → Changed n s put s' put'
-      → is_planned (s.plan c) ≡ true → is_final (s.status c) ≡ false
+      → is_some (s.plan c) ≡ true → is_final (s.status c) ≡ false
       → ((o : Op ℕ) → meant_of s c o ≡ waiting o c) → ((o : Op ℕ) → meant_of s' c o ≡ served o c a) → ((k : ℕ) (o : Op ℕ) → k ≢ c → meant_of s' k o ≡ meant_of s k o)
       → Plainly s (op_of (s.plan c)) s' a → Thread s' put' n op x → Outcome s put n op (serving s' c (goto x))
   -- it ends, served before, and the memory means what it meant
   ends : {s' : Shared} {put' : Puts} {a : Answer ℕ} → Changed n s put s' put' → SameMeaning s s' → meant_of s n op ≡ served op n a → Final s' n → Outcome s put n op (quiet s' (end a))
   -- it takes effect, as the plain vector takes it, and ends
-  ends_now : {s' : Shared} {put' : Puts} {a : Answer ℕ} → Changed n s put s' put' → ((k : ℕ) (o : Op ℕ) → meant_of s' k o ≡ meant_of s k o) → s.plan n ≡ unplanned → s'.plan n ≡ unplanned
+  ends_now : {s' : Shared} {put' : Puts} {a : Answer ℕ} → Changed n s put s' put' → ((k : ℕ) (o : Op ℕ) → meant_of s' k o ≡ meant_of s k o) → s.plan n ≡ None → s'.plan n ≡ None
       → Plainly s op s' a → Outcome s put n op (serving s' n (end a))
 
 pub same_follows : (n : ℕ) (s : Shared) (put : Puts) → Follows n s put s put
@@ -52,7 +52,7 @@ pub same_same : (s : Shared) → SameMeaning s s
 same_same s = (λ k o. refl, refl)
 
 -- no word is put by an operation that is not installed
-pub unput_new : {s : Shared} {put : Puts} → Facts s put → (c j : ℕ) → s.plan c ≡ unplanned → put c j ≡ unput
+pub unput_new : {s : Shared} {put : Puts} → Facts s put → (c j : ℕ) → s.plan c ≡ None → put c j ≡ unput
 unput_new {s} {put} g c j h = go (put c j) refl
   where
     go : (v : Put) → put c j ≡ v → put c j ≡ unput
@@ -88,7 +88,7 @@ module _ {s : Shared} {put : Puts} (g : Facts s put) {n : ℕ} {op : Op ℕ} whe
       (record { number = l.number; past = λ c. elim (l.past c) [ inl z ↦ inl z | inr z ↦ elim z [ inl w ↦ inr (inl w) | inr w ↦ inr (inr (w ∙ e)) ] ]; here = h })
 
   -- an answer at this step, with nothing changed
-  pub says : (a : Answer ℕ) → s.plan n ≡ unplanned → Plainly s op s a → Outcome s put n op (serving s n (end a))
+  pub says : (a : Answer ℕ) → s.plan n ≡ None → Plainly s op s a → Outcome s put n op (serving s n (end a))
   says a u h = ends_now (unchanged g n) (λ k o. refl) u u h
 
   -- the end of an operation served before
@@ -110,16 +110,16 @@ module _ {s s' : Shared} {put put' : Puts} {n : ℕ} (ch : Changed n s put s' pu
   thread : (x : Stage) → Knows s' put' n op x → Thread s' put' n op x
   thread = free_thread ch.facts {op = op} ne fr
 
-  pub go_on_push : (r : Then) → Helping s n op c r → (p : Plan) → s.plan c ≡ p → is_push p ≡ true → ((o : Op ℕ) → meant_of s c o ≡ served o c (Position (position p))) → Outcome s put n op (quiet s' (go_on p r))
-  go_on_push own b unplanned e h m = no_way (sym h)
-  go_on_push own b (popping q) e h m = no_way (sym h)
-  go_on_push own b (pushing q x d) e h m = let k = b.0 in ends ch same (let z = m op in cc) (cc)
+  pub go_on_push : (r : Then) → Helping s n op c r → (p : Option Plan) → s.plan c ≡ p → is_push p ≡ true → ((o : Op ℕ) → meant_of s c o ≡ served o c (Position (position p))) → Outcome s put n op (quiet s' (go_on p r))
+  go_on_push own b None e h m = no_way (sym h)
+  go_on_push own b (Some (popping q)) e h m = no_way (sym h)
+  go_on_push own b (Some (pushing q x d)) e h m = let k = b.0 in ends ch same (let z = m op in cc) (cc)
   go_on_push to_L1 b p e h m = moves ch same (thread L1 (cc, b.1))
   go_on_push (to_W1 i x) b p e h m = moves ch same (thread (W1 i x) (cc, b.1, let q = ch.follows.caps in let k = b.2 in omega arith))
 
-  pub go_on_pop : (r : Then) → Helping s n op c r → (p : Plan) → s.plan c ≡ p → is_pop p ≡ true → Outcome s put n op (quiet s' (go_on p r))
-  go_on_pop own b unplanned e h = no_way (sym h)
-  go_on_pop own b (pushing q x d) e h = no_way (sym h)
-  go_on_pop own b (popping q) e h = let k = b.0 in let z = b.1 in moves ch same (thread O1 (cc, cc, cc))
+  pub go_on_pop : (r : Then) → Helping s n op c r → (p : Option Plan) → s.plan c ≡ p → is_pop p ≡ true → Outcome s put n op (quiet s' (go_on p r))
+  go_on_pop own b None e h = no_way (sym h)
+  go_on_pop own b (Some (pushing q x d)) e h = no_way (sym h)
+  go_on_pop own b (Some (popping q)) e h = let k = b.0 in let z = b.1 in moves ch same (thread O1 (cc, cc, cc))
   go_on_pop to_L1 b p e h = moves ch same (thread L1 (cc, b.1))
   go_on_pop (to_W1 i x) b p e h = moves ch same (thread (W1 i x) (cc, b.1, let q = ch.follows.caps in let k = b.2 in omega arith))

@@ -1,5 +1,5 @@
 -- G7 makes a pop final. It is done and its cell is empty by itself, so the size and the list stay.
-use Rattle.std.proofs.Common.{◌≡◌, ℕ, refl, inl, inr, arith}
+use Rattle.std.proofs.Common.{◌≡◌, ℕ, refl, inl, inr, arith, Some}
 use Rattle.linearization.specs.Invariant.{Facts}
 use Rattle.linearization.specs.Knowledge.{Puts, Final}
 use Rattle.linearization.specs.Meaning.{size_now}
@@ -9,7 +9,7 @@ use Rattle.linearization.proofs.Consequences.{SameMeaning, is_current}
 use Rattle.linearization.proofs.Follows.{Follows}
 use Rattle.linearization.proofs.Tests.{no_way, upd_same, at_upd}
 
-module _ {s : Shared} {put : Puts} (g : Facts s put) (n c p b : ℕ) (is_plan : s.plan c ≡ popping p) (is_dn : s.status c ≡ done b) (is_clear : s.cell p ≡ empty c) where
+module _ {s : Shared} {put : Puts} (g : Facts s put) (n c p b : ℕ) (is_plan : s.plan c ≡ Some (popping p)) (is_dn : s.status c ≡ done b) (is_clear : s.cell p ≡ empty c) where
   abbrev pub after_pop_final : Shared
   after_pop_final = set_status s c (final b)
 

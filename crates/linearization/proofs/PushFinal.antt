@@ -1,5 +1,5 @@
 -- H2 makes a push final. Its cell is filled, so the push has taken effect, and nothing else changes.
-use Rattle.std.proofs.Common.{◌≡◌, ℕ, false, ◌≢◌, refl, inl, inr, arith}
+use Rattle.std.proofs.Common.{◌≡◌, ℕ, false, ◌≢◌, refl, inl, inr, arith, Some}
 use Rattle.std.proofs.lemmas.Bool.{cases_Bool}
 use Rattle.linearization.specs.Invariant.{Facts}
 use Rattle.linearization.specs.Knowledge.{Puts, Final}
@@ -10,7 +10,7 @@ use Rattle.linearization.proofs.Consequences.{SameMeaning, is_current}
 use Rattle.linearization.proofs.Follows.{Follows}
 use Rattle.linearization.proofs.Tests.{no_way, upd_same, same_cell_true, at_upd}
 
-module _ {s : Shared} {put : Puts} (g : Facts s put) (n c p x e : ℕ) (is_plan : s.plan c ≡ pushing p x e) (is_pend : s.status c ≡ pending) (is_full : s.cell p ≢ empty e) where
+module _ {s : Shared} {put : Puts} (g : Facts s put) (n c p x e : ℕ) (is_plan : s.plan c ≡ Some (pushing p x e)) (is_pend : s.status c ≡ pending) (is_full : s.cell p ≢ empty e) where
   abbrev pub after_push_final : Shared
   after_push_final = set_status s c (final 0)
 

@@ -1,6 +1,6 @@
 -- Every step is one of the plain vector: at most one waiting operation takes effect, as the plain vector takes it, and the
 -- stepping thread may end with the answer kept.
-use Rattle.std.proofs.Common.{◌≡◌, ℕ, ◌-◌, ◌≤◌, true, ◌≢◌, List, map, length, set, sym, refl, ap, ◌∙◌, inl, inr, arith, Some, None}
+use Rattle.std.proofs.Common.{◌≡◌, ℕ, ◌-◌, ◌≤◌, true, ◌≢◌, List, map, length, set, sym, refl, ap, ◌∙◌, inl, inr, arith, Some, None, Option, is_some}
 use Rattle.std.proofs.lemmas.List.{length-map, length-set}
 use Rattle.std.proofs.lemmas.Bool.{cases_eq}
 use Rattle.vector.proofs.Rows.{row_set_same, row_set_other}
@@ -11,11 +11,11 @@ use Rattle.vector.specs.declared.Op.{Op}
 use Rattle.vector.specs.declared.Op.TheVariants.{Pop}
 use Rattle.vector.specs.Threads.{task_of}
 use Rattle.linearization.specs.Invariant.{Invariant}
-use Rattle.linearization.specs.Knowledge.{Puts, is_planned, op_of, Helping, Knows}
+use Rattle.linearization.specs.Knowledge.{Puts, op_of, Helping, Knows}
 use Rattle.descriptor_steps.specs.Machine.{Res, serving, act, row_after, told}
 use Rattle.linearization.specs.Meaning.{items, meant_of, meant, meaning}
 use Rattle.descriptor_steps.specs.Shared.{Shared, is_pop}
-use Rattle.linearization.specs.Names.{Then, own, to_L1, to_W1, Stage, L1, L2, L3, P1, L4, H1, H2, G1, G2, G3, G4, G5, G5w, G6, G7, O1, R1, R2, R3, W1, W2, W3, goto, Row, idle, open_at, Plan, unplanned, pushing, popping}
+use Rattle.linearization.specs.Names.{Then, own, to_L1, to_W1, Stage, L1, L2, L3, P1, L4, H1, H2, G1, G2, G3, G4, G5, G5w, G6, G7, O1, R1, R2, R3, W1, W2, W3, goto, Row, idle, open_at, Plan, pushing, popping}
 use Rattle.linearization.proofs.Consequences.{Plainly}
 use Rattle.linearization.proofs.EveryStep.{outcome}
 use Rattle.linearization.proofs.Kept.{row_thread}
@@ -24,17 +24,17 @@ use Rattle.linearization.proofs.Tests.{no_way}
 use Rattle.linearization.proofs.Threads.{is_set, same_rows, at_row, open_thread, row_meant}
 
 -- a thread whose number is installed has the operation of its plan
-own_back : (s : Shared) (n : ℕ) (op : Op ℕ) (c : ℕ) (r : Then) → Helping s n op c r → is_planned (s.plan n) ≡ true → op ≡ op_of (s.plan n)
+own_back : (s : Shared) (n : ℕ) (op : Op ℕ) (c : ℕ) (r : Then) → Helping s n op c r → is_some (s.plan n) ≡ true → op ≡ op_of (s.plan n)
 own_back s n op c own b p = b.1
 own_back s n op c to_L1 b p = let z = b.0 in no_way (cc)
 own_back s n op c (to_W1 i x) b p = let z = b.0 in no_way (cc)
 
-pop_op : (q : Plan) → is_pop q ≡ true → Pop ≡ op_of q
-pop_op unplanned h = no_way (sym h)
-pop_op (pushing p x e) h = no_way (sym h)
-pop_op (popping p) h = refl
+pop_op : (q : Option Plan) → is_pop q ≡ true → Pop ≡ op_of q
+pop_op None h = no_way (sym h)
+pop_op (Some (pushing p x e)) h = no_way (sym h)
+pop_op (Some (popping p)) h = refl
 
-pub own_op : (s : Shared) (put : Puts) (n : ℕ) (op : Op ℕ) (x : Stage) → Knows s put n op x → is_planned (s.plan n) ≡ true → op ≡ op_of (s.plan n)
+pub own_op : (s : Shared) (put : Puts) (n : ℕ) (op : Op ℕ) (x : Stage) → Knows s put n op x → is_some (s.plan n) ≡ true → op ≡ op_of (s.plan n)
 own_op s put n op L1 h p = no_way (cc)
 own_op s put n op (L2 c) h p = no_way (cc)
 own_op s put n op (L3 c a) h p = let z = h.0 in no_way (cc)

@@ -1,11 +1,11 @@
 -- What a thread knows stays true when another thread steps: shown once for all stages, from what every change of memory follows.
-use Rattle.std.proofs.Common.{◌≡◌, ℕ, ◌<◌, Bool, true, false, ◌≢◌, sym, refl, ◌∙◌, inl, inr, arith}
+use Rattle.std.proofs.Common.{◌≡◌, ℕ, ◌<◌, Bool, true, false, ◌≢◌, refl, ◌∙◌, inl, inr, arith, Some, None, Option, is_some}
 use Rattle.vector.specs.declared.Answer.{Answer}
 use Rattle.vector.specs.declared.Op.{Op}
 use Rattle.linearization.specs.Invariant.{Facts}
-use Rattle.linearization.specs.Knowledge.{unput, early, late, Puts, WasPut, is_done, is_planned, Final, Settled, Replaceable, Verdict, Ready, Helping, Knows, Thread}
+use Rattle.linearization.specs.Knowledge.{unput, early, late, Puts, WasPut, is_done, Final, Settled, Replaceable, Verdict, Ready, Helping, Knows, Thread}
 use Rattle.descriptor_steps.specs.Shared.{Cell, empty, plain, frozen, Status, pending, done, final, Shared, is_pending, is_final, held, is_push, is_pop, position, size_after}
-use Rattle.linearization.specs.Names.{Then, own, to_L1, to_W1, Stage, L1, L2, L3, P1, L4, H1, H2, G1, G2, G3, G4, G5, G5w, G6, G7, O1, R1, R2, R3, W1, W2, W3, Plan, unplanned, pushing, popping}
+use Rattle.linearization.specs.Names.{Then, own, to_L1, to_W1, Stage, L1, L2, L3, P1, L4, H1, H2, G1, G2, G3, G4, G5, G5w, G6, G7, O1, R1, R2, R3, W1, W2, W3, Plan, pushing, popping}
 use Rattle.linearization.proofs.Follows.{Follows}
 use Rattle.linearization.proofs.Tests.{no_way}
 
@@ -14,26 +14,23 @@ not_both pending x y = cc
 not_both (done a) x y = cc
 not_both (final a) x y = cc
 
-pub pop_planned : (p : Plan) → is_pop p ≡ true → is_planned p ≡ true
-pop_planned unplanned h = h
-pop_planned (pushing a x e) h = no_way (sym h)
-pop_planned (popping a) h = h
+pub pop_planned : (p : Option Plan) → is_pop p ≡ true → is_some p ≡ true
+pop_planned None h = h
+pop_planned (Some p) h = refl
 
-pub push_planned : (p : Plan) → is_push p ≡ true → is_planned p ≡ true
-push_planned unplanned h = h
-push_planned (pushing a x e) h = h
-push_planned (popping a) h = no_way (sym h)
+pub push_planned : (p : Option Plan) → is_push p ≡ true → is_some p ≡ true
+push_planned None h = h
+push_planned (Some p) h = refl
 
-pub final_planned : {s : Shared} {put : Puts} → Facts s put → (c : ℕ) → Final s c → is_planned (s.plan c) ≡ true
+pub final_planned : {s : Shared} {put : Puts} → Facts s put → (c : ℕ) → Final s c → is_some (s.plan c) ≡ true
 final_planned {s} g c h = go (s.plan c) refl
   where
-    go : (p : Plan) → s.plan c ≡ p → is_planned p ≡ true
-    go unplanned e = let x = g.unplanned_pending c e in no_way (cc)
-    go (pushing a x y) e = refl
-    go (popping a) e = refl
+    go : (p : Option Plan) → s.plan c ≡ p → is_some p ≡ true
+    go None e = let x = g.unplanned_pending c e in no_way (cc)
+    go (Some p) e = refl
 
 module _ {m : ℕ} {s : Shared} {put : Puts} {s' : Shared} {put' : Puts} (f : Follows m s put s' put') where
-  pub plan_kept : (k : ℕ) → is_planned (s.plan k) ≡ true → s'.plan k ≡ s.plan k
+  pub plan_kept : (k : ℕ) → is_some (s.plan k) ≡ true → s'.plan k ≡ s.plan k
   plan_kept k h = elim (f.plans k) [ inl e ↦ e | inr e ↦ no_way (cc) ]
 
   pub plan_other : (k : ℕ) → k ≢ m → s'.plan k ≡ s.plan k
@@ -76,7 +73,7 @@ module _ {m : ℕ} {s : Shared} {put : Puts} {s' : Shared} {put' : Puts} (f : Fo
       unput_kept : (c : ℕ) → put c n ≡ unput → put' c n ≡ unput
       unput_kept c h = elim (f.puts c n) [ inl e ↦ cc | inr e ↦ absurd (ne e.0) ]
 
-      un_kept : s.plan n ≡ unplanned → s'.plan n ≡ unplanned
+      un_kept : s.plan n ≡ None → s'.plan n ≡ None
       un_kept h = let e = plan_other n ne in cc
 
       cap_kept : (i : ℕ) → i < s.cap → i < s'.cap
@@ -88,7 +85,6 @@ module _ {m : ℕ} {s : Shared} {put : Puts} {s' : Shared} {put' : Puts} (f : Fo
       helping_kept c (to_W1 i x) h = (un_kept h.0, h.1, cap_kept i h.2)
 
       pub ready_kept : (c : ℕ) → Settled s c → (p : Plan) → Ready s c p op → Ready s' c p op
-      ready_kept c t unplanned h = h
       ready_kept c t (pushing i x e) h =
           let q = settled_plan c t in (
             h.0,

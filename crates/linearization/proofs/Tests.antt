@@ -1,10 +1,14 @@
 -- Small facts the other files go by: a function with one value changed, and what the tests of cells and statuses tell.
-use Rattle.std.proofs.Common.{◌≡◌, ℕ, Bool, true, false, ◌&&◌, eqb, ◌≢◌, ◌⊎◌, sym, refl, ap, inl, inr, true≢false}
+use Rattle.std.proofs.Common.{◌≡◌, ℕ, Bool, true, false, ◌&&◌, eqb, ◌≢◌, ◌⊎◌, sym, refl, ap, inl, inr, true≢false, Some, None, Option, is_some}
 use Rattle.std.proofs.lemmas.Bool.{cases_eq, eqb-true, eq-eqb, ne_eqb, and_parts, and_from}
 use Rattle.descriptor_steps.specs.Shared.{Cell, empty, plain, frozen, Status, pending, done, final, upd, same_cell, same_done}
 
 pub no_way : {A : Type 0} → ◌≡◌ {A = Bool} true false → A
 no_way e = absurd (true≢false e)
+
+pub none_there : {A : Type 0} (o : Option A) → is_some o ≡ false → o ≡ None
+none_there None h = refl
+none_there (Some x) h = no_way h
 
 module _ {A : Type 0} where
   pub upd_same : (f : ℕ → A) (i : ℕ) (v : A) → upd f i v i ≡ v

@@ -1,11 +1,11 @@
 -- What holds between any two steps: of the shared memory, of each thread, and of the numbers given.
-use Rattle.std.specs.Prelude.{◌≡◌, ℕ, ◌<◌, ◌≤◌, Bool, true, false, ◌≢◌, ◌⊎◌, List, Some, None}
+use Rattle.std.specs.Prelude.{◌≡◌, ℕ, ◌<◌, ◌≤◌, Bool, true, false, ◌≢◌, ◌⊎◌, List, Some, None, is_some}
 use Rattle.vector.specs.declared.Op.{Op}
 use Rattle.vector.specs.Threads.{task_of}
 use Rattle.descriptor_steps.specs.Shared.{Cell, empty, plain, frozen, pending, done, Shared, is_pending, is_final, is_push, is_pop, position, emptied_by}
-use Rattle.linearization.specs.Names.{unplanned, Stage, Row, open_at}
+use Rattle.linearization.specs.Names.{Stage, Row, open_at}
 use Rattle.linearization.specs.Meaning.{size_now}
-use Rattle.linearization.specs.Knowledge.{unput, early, late, Puts, WasPut, is_done, is_planned, Final, Thread}
+use Rattle.linearization.specs.Knowledge.{unput, early, late, Puts, WasPut, is_done, Final, Thread}
 
 abbrev pub is_empty : Cell → Bool
 is_empty (empty k) = true
@@ -15,13 +15,13 @@ is_empty (frozen a k j) = false
 -- The facts of the shared memory, with the words frozen so far.
 pub record Facts (s : Shared) (put : Puts) : Type 0 where
   -- number 0 is no operation
-  pub zero_unplanned : s.plan 0 ≡ unplanned
+  pub zero_unplanned : s.plan 0 ≡ None
   -- the current number is that of an installed operation, or 0
-  pub current_planned : s.plan s.cur ≡ unplanned → s.cur ≡ 0
+  pub current_planned : s.plan s.cur ≡ None → s.cur ≡ 0
   -- an installed operation that is not the current one is final
-  pub others_final : (k : ℕ) → k ≢ s.cur → is_planned (s.plan k) ≡ true → Final s k
+  pub others_final : (k : ℕ) → k ≢ s.cur → is_some (s.plan k) ≡ true → Final s k
   -- a number that is not installed is pending
-  pub unplanned_pending : (k : ℕ) → s.plan k ≡ unplanned → s.status k ≡ pending
+  pub unplanned_pending : (k : ℕ) → s.plan k ≡ None → s.status k ≡ pending
   -- a push is never done: from pending it becomes final
   pub push_undone : (k : ℕ) → is_push (s.plan k) ≡ true → is_done (s.status k) ≡ false
   -- no cell below the size is empty
@@ -51,7 +51,7 @@ pub record Facts (s : Shared) (put : Puts) : Type 0 where
   -- once a push is final, its cell is never again as it found it
   pub push_filled : (c : ℕ) → is_push (s.plan c) ≡ true → Final s c → s.cell (position (s.plan c)) ≢ empty (emptied_by (s.plan c))
   -- plans are for positions within the capacity
-  pub plan_within : (k : ℕ) → is_planned (s.plan k) ≡ true → position (s.plan k) < s.cap
+  pub plan_within : (k : ℕ) → is_some (s.plan k) ≡ true → position (s.plan k) < s.cap
 
 -- A row is idle, or its thread knows what its stage says, and its number was given.
 abbrev pub RowHolds : Shared → Puts → ℕ → Row → Type 0
@@ -67,7 +67,7 @@ pub record Invariant (s : Shared) (rows : List Row) (given : ℕ) : Type 0 where
   -- different threads have different numbers
   pub apart : (t u n : ℕ) (op op' : Op ℕ) (g g' : Stage) → task_of rows t ≡ open_at n op g → task_of rows u ≡ open_at n op' g' → t ≡ u
   -- an installed operation that is not final is still open
-  pub owned : (k : ℕ) → is_planned (s.plan k) ≡ true → is_final (s.status k) ≡ false → (t : ℕ) × (op : Op ℕ) × (g : Stage) × (task_of rows t ≡ open_at k op g)
+  pub owned : (k : ℕ) → is_some (s.plan k) ≡ true → is_final (s.status k) ≡ false → (t : ℕ) × (op : Op ℕ) × (g : Stage) × (task_of rows t ≡ open_at k op g)
   -- a number not yet given is not installed, and no word was put through it
-  pub plan_later : (k : ℕ) → given < k → s.plan k ≡ unplanned
+  pub plan_later : (k : ℕ) → given < k → s.plan k ≡ None
   pub put_later : (c j : ℕ) → given < j → put c j ≡ unput

@@ -1,6 +1,6 @@
 -- The stages, plans and rows of the step table, by short names.
 pub use Rattle.descriptor_steps.specs.declared.stage.Plan.{Plan}
-pub use Rattle.descriptor_steps.specs.declared.stage.Plan.TheVariants.{Unplanned as unplanned, Pushing as pushing, Popping as popping}
+pub use Rattle.descriptor_steps.specs.declared.stage.Plan.TheVariants.{Pushing as pushing, Popping as popping}
 pub use Rattle.descriptor_steps.specs.declared.stage.Then.{Then}
 pub use Rattle.descriptor_steps.specs.declared.stage.Then.TheVariants.{Own as own, ToL1 as to_L1, ToW1 as to_W1}
 pub use Rattle.descriptor_steps.specs.declared.stage.Stage.{Stage}
