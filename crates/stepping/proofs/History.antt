@@ -1,17 +1,13 @@
 -- From the calls that led to a bench to the law of runs: a bench over a container that holds together has room for all its records,
 -- so that every call did what it should and the log is that of the calls.
-use Rattle.std.proofs.Common.{◌≡◌, ℕ, ◌+◌, ◌≤◌, List, [], ◌∷◌, ◌++◌, length, Ok, Err, vec_items, vec_capacity, Result, sym, refl, ap, ◌∙◌, subst, arith}
+use Rattle.std.proofs.Common.{◌≡◌, ℕ, ◌+◌, ◌≤◌, List, [], ◌∷◌, ◌++◌, length, Ok, Err, vec_items, vec_capacity, sym, refl, ap, ◌∙◌, subst, arith}
 use Rattle.std.proofs.lemmas.List.{append-nil, append_assoc, length-append, length-set, length-replicate, take_all}
-use Rattle.refusal.specs.declared.Refusal.{Refusal}
 use Rattle.items.specs.declared.Kind.{Ghosts as Kind}
-use Rattle.vector.specs.Plain.{map_op}
-use Rattle.vector.specs.Calls.{Keeps, Begins}
-use Rattle.vector.specs.declared.Op.{Op}
 use Rattle.vector.specs.Meaning.{Lawful, unset, idle}
 use Rattle.vector.specs.declared.Stepped.{Stepped}
 use Rattle.vector.specs.declared.container.Container.{Ghosts as Container}
-use Rattle.stepping.specs.Log.{records, recorded, begin_records, step_records}
-use Rattle.stepping.specs.Bench.{Logs, Makes, BenchBegins, Calls, Looks}
+use Rattle.stepping.specs.Log.{records, recorded, step_records}
+use Rattle.stepping.specs.Bench.{Logs, Makes, Calls, Looks}
 use Rattle.stepping.specs.History.{Leads, Led, GoesOn, Does, Performed, Ran, RunsOn}
 use Rattle.stepping.specs.declared.Record.{Record}
 use Rattle.stepping.specs.declared.Event.{Event}
@@ -32,6 +28,9 @@ module _ {C K T : Type 0} (c : Container C) (k : Kind K T) where
   pub leads_push : (b u w : Running C K T) (es : List (Event T)) (e : Event T) → Leads c k b es u → Calls c k u e w → Leads c k b (es ++ e ∷ []) w
   leads_push b u w es e led call = leads_on b u w es (e ∷ []) led (w, call, refl)
 
+  pub led_first : (start : C) (b : Running C K T) → Makes c start b → (c.shows start).meaning ≡ unset → Led c k start [] b
+  led_first start b made new = record { first = b; not_set_up = new; made = made; leads = refl }
+
   pub led_on : (b b' : Running C K T) (more : List (Event T)) → Leads c k b more b' → (start : C) (es : List (Event T)) → Led c k start es b → Led c k start (es ++ more) b'
   led_on b b' more leads start es led = record { first = led.first; not_set_up = led.not_set_up; made = led.made; leads = leads_on led.first b b' es more led.leads leads }
 
@@ -47,18 +46,6 @@ module _ {C K T : Type 0} (c : Container C) (k : Kind K T) where
         logged = ap (λ l. vec_items l) same ∙ nothing_more (vec_capacity b.log) items [] refl fits;
         room = ap (λ l. vec_capacity l) same;
       }
-
-  -- a begin by the operation that was handed to the container
-  pub begins_on : (b b' : Running C K T) (t : ℕ) (op : Op T) (r : Result ℕ Refusal) (handed : Op ℕ) → handed ≡ map_op k.value op → map_op k.item (map_op k.value op) ≡ op
-      → Keeps c.sound b.container b'.container (Begins (c.shows b.container) t handed r (c.shows b'.container)) → c.beginning b.container t handed r b'.container
-      → b'.threads ≡ b.threads → Logs b (begin_records t op r) b' → BenchBegins c k b t op r b'
-  begins_on b b' t op r handed is back means table threads logs = record {
-    means = subst (λ (o : Op ℕ). Keeps c.sound b.container b'.container (Begins (c.shows b.container) t o r (c.shows b'.container))) is means;
-    table = subst (λ (o : Op ℕ). c.beginning b.container t o r b'.container) is table;
-    back = back;
-    threads_same = threads;
-    logs = logs;
-  }
 
   calls_log : (b b' : Running C K T) (e : Event T) → Calls c k b e b' → Logs b (records e) b'
   calls_log b b' (SetUpCall n m r) call = kept_log b b' call.log_same

@@ -1,15 +1,14 @@
 -- Lemmas on logs: one record more, and what stands among the records of one number.
-use Rattle.std.proofs.Common.{◌≡◌, ℕ, ◌+◌, ◌<◌, ◌≤◌, Bool, true, false, cond, eqb, ◌≢◌, ◌⊎◌, List, [], ◌∷◌, ◌++◌, map, length, get_or, take, drop, set, None, filter, Option, sym, refl, ap, ◌∙◌, subst, inl, inr, append_assoc, arith, eq-eqb, ne_eqb}
+use Rattle.std.proofs.Common.{◌≡◌, ℕ, ◌+◌, ◌<◌, ◌≤◌, Bool, true, false, cond, eqb, ◌≢◌, ◌⊎◌, List, [], ◌∷◌, ◌++◌, map, length, get_or, take, drop, set, None, filter, sym, refl, ap, ◌∙◌, subst, inl, inr, append_assoc, arith, eq-eqb, ne_eqb}
 use Rattle.std.specs.List.{flat_map}
-use Rattle.std.proofs.lemmas.List.{append-nil, length_push, map_push, take_all, take-append-le, length-take-le, take_more, take_more_set, drop-drop, drop-set-lt}
+use Rattle.std.proofs.lemmas.List.{append-nil, map_push, take_all, take-append-le, length-take-le, take_more, take_more_set, drop-drop, drop-set-lt}
 use Rattle.std.proofs.lemmas.Bool.{cases_lt}
-use Rattle.std.proofs.lemmas.List.Sums.{fold_push, fold_more}
+use Rattle.std.proofs.lemmas.List.Sums.{fold_push}
 use Rattle.vector.specs.Plain.{answer, after}
 use Rattle.vector.specs.declared.Op.{Op}
 use Rattle.vector.specs.declared.Answer.{Answer}
 use Rattle.stepping.specs.Log.{number_of, about, told, follow, Among, begins, effects, ends, begin_of, effect_of}
 use Rattle.stepping.specs.Runs.{plain_answers, plain_items}
-use Rattle.stepping.specs.declared.Open.{Open}
 use Rattle.stepping.specs.declared.Record.{Record}
 use Rattle.stepping.specs.declared.Record.TheVariants.{Begin, Effect, End}
 
@@ -32,14 +31,7 @@ module _ {X : Type 0} where
   among_push (z ∷ xs) x y (inl e) = inl (inl e)
   among_push (z ∷ xs) x y (inr h) = elim (among_push xs x y h) [ inl i ↦ inl (inr i) | inr e ↦ inr e ]
 
-  -- A list grows as far as there is room: by one element, by none for want of room, and by none.
-  pub one_more : (n : ℕ) (xs ys more : List X) (x : X) → more ≡ x ∷ [] → ys ≡ xs ++ x ∷ [] → length xs < n → ys ≡ take n (xs ++ more)
-  one_more n xs ys more x is pushed room =
-      pushed ∙ sym (take_all n (xs ++ x ∷ []) (omega (arith, length_push xs x, room))) ∙ ap (λ (l : List X). take n (xs ++ l)) (sym is)
-
-  pub no_room : (n : ℕ) (xs more : List X) → n ≤ length xs → length xs ≤ n → xs ≡ take n (xs ++ more)
-  no_room n xs more full fits = sym (take-append-le n xs more full ∙ take_all n xs fits)
-
+  -- a list that fits and grows by none
   pub nothing_more : (n : ℕ) (xs more : List X) → more ≡ [] → length xs ≤ n → xs ≡ take n (xs ++ more)
   nothing_more n xs more none fits = sym (ap (λ (l : List X). take n (xs ++ l)) none ∙ ap (take n) (append-nil xs) ∙ take_all n xs fits)
 
@@ -154,21 +146,17 @@ module _ {T : Type 0} where
       find (End m b ∷ l) (inl e) = let number : n ≡ m = ap (λ x. x.0) e in let same : a ≡ b = ap (λ x. x.1) e in inl (cc)
       find (End m b ∷ l) (inr h) = inr (find l h)
 
-  -- a loop over the log, one record on
-  pub told_next : (t : ℕ) (log : List (Record T)) (i : ℕ) (x : Record T) (seen : Option Open) → i < length log → x ≡ get_or log i x → seen ≡ told t (take i log) → follow t seen x ≡ told t (take (i + 1) log)
-  told_next t log i x seen within read is =
-      ap (λ s. follow t s x) is ∙ ap (follow t (told t (take i log))) read ∙ sym (fold_more (follow t) None log i x within)
-
 -- A loop that plays calls, one call on: the calls of the events so far, and the events still to be written over.
 module _ {E F : Type 0} (call_of : E → F) where
+  pub calls_push : (events : List E) (calls : List F) (i : ℕ) (e : E) (x : F) → i < length calls → x ≡ get_or calls i x → call_of e ≡ x
+      → map call_of events ≡ take i calls → map call_of (events ++ e ∷ []) ≡ take (i + 1) calls
+  calls_push events calls i e x within read is so_far =
+      map_push call_of events e ∙ ap (λ l. l ++ call_of e ∷ []) so_far ∙ ap (λ y. take i calls ++ y ∷ []) (is ∙ read) ∙ sym (take_more calls i x within)
+
   pub calls_more : (events : List E) (calls : List F) (i : ℕ) (e : E) (x : F) → i < length events → i < length calls → x ≡ get_or calls i x → call_of e ≡ x
       → map call_of (take i events) ≡ take i calls → map call_of (take (i + 1) (set events i e)) ≡ take (i + 1) calls
   calls_more events calls i e x in_events in_calls read is so_far =
-      ap (map call_of) (take_more_set events i e in_events) ∙ map_push call_of (take i events) e ∙ ap (λ l. l ++ call_of e ∷ []) so_far
-      ∙ ap (λ y. take i calls ++ y ∷ []) (is ∙ read) ∙ sym (take_more calls i x in_calls)
-
-  pub calls_all : (events : List E) (calls : List F) (n : ℕ) → take n events ≡ events → map call_of (take n events) ≡ take n calls → length calls ≤ n → map call_of events ≡ calls
-  calls_all events calls n all is enough = ap (map call_of) (sym all) ∙ is ∙ take_all n calls enough
+      ap (map call_of) (take_more_set events i e in_events) ∙ calls_push (take i events) calls i e x in_calls read is so_far
 
 pub rest_more : {E : Type 0} (events first : List E) (i : ℕ) (e : E) → drop i events ≡ drop i first → drop (i + 1) (set events i e) ≡ drop (i + 1) first
 rest_more events first i e rest =

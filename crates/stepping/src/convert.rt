@@ -36,13 +36,10 @@ pub(crate) fn answer_of_items<K: Kind>(answer: Answer<u32>) -> Answer<K::Item>
 pub(crate) fn step_of_items<K: Kind>(step: Stepped<u32>) -> Stepped<K::Item>
     ensures { result ≡ typed K.item step }
 {
-    let end = match step.end {
-        None => None,
-        Some(e) => Some(Ended {
-            number: e.number,
-            answer: answer_of_items::<K>(e.answer),
-        }),
-    };
+    let end = step.end.map(|ended| Ended {
+        number: ended.number,
+        answer: answer_of_items::<K>(ended.answer),
+    });
     Stepped {
         effect: step.effect,
         end,

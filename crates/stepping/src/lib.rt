@@ -23,7 +23,7 @@ pub enum Record<T> {
 }
 
 // A thread's open operation: its number, and whether it took effect.
-#[derive(Clone, Copy)]
+#[derive(Clone, Copy, Debug, PartialEq, Eq)]
 pub struct Open {
     pub number: u32,
     pub effect: bool,
@@ -38,7 +38,7 @@ pub enum Call<T> {
     Look(usize),
 }
 
-// A call with what it gave.
+// A call with what it gave; not a call beside a result, since each call gives a result of its own type.
 #[derive(Clone, Copy)]
 pub enum Event<T> {
     SetUp(usize, usize, Result<(), Refusal>),

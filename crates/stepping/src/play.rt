@@ -8,7 +8,6 @@ ghost use Rattle.stepping.specs.Runs.{LawOfRuns};
 use crate::{Call, Closed, Event, Running};
 use items::Kind;
 use memory::Memory;
-use refusal::Refusal;
 use std::alloc::{AllocError, Global};
 use vector::{Container, Over};
 
@@ -32,10 +31,10 @@ pub fn play_over<M: Memory, C: Over<M> + Drop, K: Kind>(
 {
     let container = C::over(memory);
     let mut events = Vec::with_capacity(heap, calls.len())?;
-    // Places for the events, each of which is written over.
-    events.resize(calls.len(), Event::Look(0, Err(Refusal::NoThread)))?;
     let mut bench = Running::<C, K>::new(heap, container)?;
-    bench.run(calls, events.as_mut_slice());
+    for call in calls {
+        events.push_reserved(bench.call(*call));
+    }
     Ok(Played {
         events,
         closed: bench.close(),

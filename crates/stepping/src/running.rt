@@ -31,14 +31,14 @@ impl<C: Container, K: Kind> Running<C, K> {
         ensures led { IfOk result (λ b. (C.Container.shows container).meaning ≡ unset → Led C.Container K.Kind container [] b) }
         ensures refused { IfErr result (λ e. e.value ≡ container) }
     {
-        match Vec::with_capacity(heap, 3 * container.numbers() as usize) {
-            Ok(log) => Ok(Running {
-                container,
-                threads: 0,
-                log,
-            }),
-            Err(_) => Err(AllocFailed { value: container }),
-        }
+        let Ok(log) = Vec::with_capacity(heap, 3 * container.numbers() as usize) else {
+            return Err(AllocFailed { value: container });
+        };
+        Ok(Running {
+            container,
+            threads: 0,
+            log,
+        })
     }
 
     pub fn set_up(&mut self, capacity: usize, threads: usize) -> Result<(), Refusal>
@@ -79,7 +79,7 @@ impl<C: Container, K: Kind> Running<C, K> {
     }
 
     // Any call, with what it gave.
-    fn call(&mut self, call: Call<K::Item>) -> Event<K::Item>
+    pub(crate) fn call(&mut self, call: Call<K::Item>) -> Event<K::Item>
         ensures called { call_of result ≡ call }
         ensures does { Calls C.Container K.Kind self.old result self.new }
     {
@@ -104,8 +104,9 @@ impl<C: Container, K: Kind> Running<C, K> {
         ensures law { RunsOn C.Container K.Kind self.old (take result events.new) self.new }
     {
         let count = calls.len().min(events.len());
-        for i in 0..count {
-            events[i] = self.call(calls[i]);
+        // By index: what is written through a `zip` with `iter_mut` is not known afterwards, so that no clause on the events closed.
+        for (i, call) in calls[..count].iter().enumerate() {
+            events[i] = self.call(*call);
         }
         count
     }
@@ -115,11 +116,7 @@ impl<C: Container, K: Kind> Running<C, K> {
         ensures same { (result.container ≡ self.container) × (result.log ≡ self.log) }
         ensures law { Closes C.Container K.Kind self result.log.items result.container }
     {
-        let Running {
-            container,
-            threads: _,
-            log,
-        } = self;
+        let Running { container, log, .. } = self;
         Closed { container, log }
     }
 }

@@ -1,10 +1,6 @@
--- Closing changes nothing, and the law holds of every history.
-use Rattle.std.proofs.Common.{refl}
+-- The law holds of every history.
 use Rattle.stepping.proofs.History.{ran}
 use Rattle.stepping.proofs.running.Running.close.Goals as goal
 
-pub returns : goal.returns
-returns g c = record {
-  same = (refl, refl);
-  law = λ start es led. ran g.C.Container g.K.Kind g.met.C.Container.lawful g.met.C.Container.fresh start es c.args.self led;
-}
+pub returns-clause-law : goal.returns-clause-law
+returns-clause-law g c = λ start es led. ran g.C.Container g.K.Kind g.met.C.Container.lawful g.met.C.Container.fresh start es c.args.self led

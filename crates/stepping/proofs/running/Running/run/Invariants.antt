@@ -5,9 +5,10 @@ use Rattle.stepping.specs.History.{Leads}
 use Rattle.stepping.proofs.running.Running.run.Given as goal
 
 abbrev pub invariant-loop-i : goal.invariant-loop-i
-invariant-loop-i g l =
-    (l.count ≤ length l.calls)
-    × (l.count ≤ length l.events)
-    × (map call_of (take l.i l.events) ≡ take l.i l.calls)
-    × (drop l.i l.events ≡ drop l.i l.initial.events)
-    × Leads g.C.Container g.K.Kind l.initial.self (take l.i l.events) l.self
+invariant-loop-i g l = record {
+  in_calls : length l.call-items ≡ l.count;
+  in_events : l.count ≤ length l.events;
+  called : map call_of (take l.i l.events) ≡ take l.i l.call-items;
+  rest : drop l.i l.events ≡ drop l.i l.initial.events;
+  leads : Leads g.C.Container g.K.Kind l.initial.self (take l.i l.events) l.self;
+}
