@@ -2,6 +2,7 @@
 use Rattle.std.proofs.Common.{◌≡◌, ℕ, ◌≤◌, ◌≢◌, List, [], ◌∷◌, ◌++◌, map, length, Some, None, Ok, Err, fold, Option, sym, refl, ap, ◌∙◌, subst, arith}
 use Rattle.std.specs.List.{flat_map, AllByRecursion}
 use Rattle.std.proofs.lemmas.List.{append-nil, append_assoc}
+use Rattle.std.proofs.lemmas.Grind.{flat_map-append}
 use Rattle.items.specs.declared.Kind.{Ghosts as Kind}
 use Rattle.vector.specs.Plain.{map_op}
 use Rattle.vector.specs.Meaning.{Shown, Lawful, unset, row_of}
@@ -18,7 +19,6 @@ use Rattle.stepping.specs.declared.Record.{Record}
 use Rattle.stepping.specs.declared.Record.TheVariants.{Begin}
 use Rattle.stepping.specs.declared.Event.{Event}
 use Rattle.stepping.specs.declared.Event.TheVariants.{SetUp as SetUpCall, Begin as BeginCall, Step as StepCall, Look as LookCall}
-use Rattle.stepping.proofs.Logs.{joined_append}
 use Rattle.stepping.proofs.Passes.{set_up_passes, begin_passes, step_passes, closed_idle, moves_same}
 use Rattle.stepping.proofs.Kept.{Kept, empty_keeps, begin_keeps, step_keeps}
 use Rattle.stepping.proofs.Told.{tells}
@@ -135,7 +135,7 @@ module _ {C K T : Type 0} (c : Container C) (k : Kind K T) where
 
   -- (a) each record is one that the call gave
   joined_step : {A : Type 0} (f : Record T → List A) (effect : Option ℕ) (end : Option (Ended T)) → flat_map f (effect_record effect ++ end_record end) ≡ flat_map f (effect_record effect) ++ flat_map f (end_record end)
-  joined_step f effect end = joined_append f (effect_record effect) (end_record end)
+  joined_step f effect end = flat_map-append f (effect_record effect) (end_record end)
 
   begins_of : (e : Event T) → flat_map begin_of (records e) ≡ granted_begin e
   begins_of (SetUpCall n m r) = refl
@@ -181,7 +181,7 @@ module _ {C K T : Type 0} (c : Container C) (k : Kind K T) where
 
   by_events : {A : Type 0} (f : Record T → List A) (g : Event T → List A) → ((e : Event T) → flat_map f (records e) ≡ g e) → (es : List (Event T)) → flat_map f (recorded es) ≡ flat_map g es
   by_events f g each [] = refl
-  by_events f g each (e ∷ es) = joined_append f (records e) (recorded es) ∙ ap (λ l. l ++ flat_map f (recorded es)) (each e) ∙ ap (λ l. g e ++ l) (by_events f g each es)
+  by_events f g each (e ∷ es) = flat_map-append f (records e) (recorded es) ∙ ap (λ l. l ++ flat_map f (recorded es)) (each e) ∙ ap (λ l. g e ++ l) (by_events f g each es)
 
   module _ (x w : C) (es : List (Event T)) (new : (c.shows x).meaning ≡ unset) (lawful : Lawful (c.shows x)) (run : Performed c k [] x es w) where
     -- at every moment what is read off the log is true

@@ -1,7 +1,9 @@
 -- Lemmas on logs: one record more, and what stands among the records of one number.
-use Rattle.std.proofs.Common.{◌≡◌, ℕ, ◌+◌, ◌<◌, ◌≤◌, Bool, true, false, cond, eqb, ◌≢◌, ◌⊎◌, List, [], ◌∷◌, ◌++◌, map, length, get_or, take, drop, set, None, filter, sym, refl, ap, ◌∙◌, subst, inl, inr, append_assoc, arith, eq-eqb, ne_eqb}
+use Rattle.std.proofs.Common.{◌≡◌, ℕ, ◌+◌, ◌<◌, ◌≤◌, Bool, true, false, cond, eqb, ◌≢◌, ◌⊎◌, List, [], ◌∷◌, ◌++◌, map, length, get_or, take, drop, set, None, sym, refl, ap, ◌∙◌, subst, inl, inr, append_assoc, arith, eq-eqb, ne_eqb}
 use Rattle.std.specs.List.{flat_map}
 use Rattle.std.proofs.lemmas.List.{append-nil, map_push, take_all, take-append-le, length-take-le, take_more, take_more_set, drop-drop, drop-set-lt}
+use Rattle.std.proofs.lemmas.Grind.{flat_map-append}
+use Rattle.std.proofs.lemmas.List.Elements.{filter-append}
 use Rattle.std.proofs.lemmas.Bool.{cases_lt}
 use Rattle.std.proofs.lemmas.List.Sums.{fold_push}
 use Rattle.vector.specs.Plain.{answer, after}
@@ -51,33 +53,19 @@ module _ {X : Type 0} where
       second ∙ ap (λ k. take k (ys ++ b)) same ∙ ap (λ (l : List X). take n (l ++ b)) first ∙ cut_twice n (xs ++ a) b ∙ ap (take n) (append_assoc xs a b)
       ∙ ap (λ (l : List X). take n (xs ++ (l ++ b))) is ∙ ap (λ (l : List X). take n (xs ++ (a' ++ l))) is'
 
-module _ {X A : Type 0} (f : X → List A) where
-  pub joined_append : (xs ys : List X) → flat_map f (xs ++ ys) ≡ flat_map f xs ++ flat_map f ys
-  joined_append [] ys = refl
-  joined_append (x ∷ xs) ys = ap (λ l. f x ++ l) (joined_append xs ys) ∙ sym (append_assoc (f x) (flat_map f xs) (flat_map f ys))
-
-  pub joined_push : (xs : List X) (x : X) → flat_map f (xs ++ x ∷ []) ≡ flat_map f xs ++ f x
-  joined_push xs x = joined_append xs (x ∷ []) ∙ ap (λ l. flat_map f xs ++ l) (append-nil (f x))
-
--- a filter, one more at the end
-kept_yes : {X : Type 0} (p : X → Bool) (xs : List X) (x : X) → p x ≡ true → filter p (xs ++ x ∷ []) ≡ filter p xs ++ x ∷ []
-kept_yes p [] x h = rw h
-kept_yes p (y ∷ xs) x h =
-    let go : (b : Bool) → cond b (y ∷ filter p (xs ++ x ∷ [])) (filter p (xs ++ x ∷ [])) ≡ cond b (y ∷ filter p xs) (filter p xs) ++ x ∷ [] =
-    λ b. elim b as (λ c. cond c (y ∷ filter p (xs ++ x ∷ [])) (filter p (xs ++ x ∷ [])) ≡ cond c (y ∷ filter p xs) (filter p xs) ++ x ∷ [])
-    [ true ↦ ap (λ l. y ∷ l) (kept_yes p xs x h) | false ↦ kept_yes p xs x h ] in
-    go (p y)
-
-kept_no : {X : Type 0} (p : X → Bool) (xs : List X) (x : X) → p x ≡ false → filter p (xs ++ x ∷ []) ≡ filter p xs
-kept_no p [] x h = rw h
-kept_no p (y ∷ xs) x h = rw (kept_no p xs x h)
+pub joined_push : {X A : Type 0} (f : X → List A) (xs : List X) (x : X) → flat_map f (xs ++ x ∷ []) ≡ flat_map f xs ++ f x
+joined_push f xs x = flat_map-append f xs (x ∷ []) ∙ ap (λ l. flat_map f xs ++ l) (append-nil (f x))
 
 module _ {T : Type 0} where
   pub about_same : (log : List (Record T)) (r : Record T) → about (number_of r) (log ++ r ∷ []) ≡ about (number_of r) log ++ r ∷ []
-  about_same log r = kept_yes (λ q. eqb (number_of q) (number_of r)) log r (eq-eqb (number_of r) (number_of r) refl)
+  about_same log r =
+      filter-append (λ q. eqb (number_of q) (number_of r)) log (r ∷ [])
+      ∙ ap (λ b. about (number_of r) log ++ cond b (r ∷ []) []) (eq-eqb (number_of r) (number_of r) refl)
 
   pub about_other : (log : List (Record T)) (r : Record T) (n : ℕ) → number_of r ≢ n → about n (log ++ r ∷ []) ≡ about n log
-  about_other log r n apart = kept_no (λ q. eqb (number_of q) n) log r (ne_eqb (number_of r) n apart)
+  about_other log r n apart =
+      filter-append (λ q. eqb (number_of q) n) log (r ∷ []) ∙ ap (λ b. about n log ++ cond b (r ∷ []) []) (ne_eqb (number_of r) n apart)
+      ∙ append-nil (about n log)
 
   pub told_push : (t : ℕ) (log : List (Record T)) (r : Record T) → told t (log ++ r ∷ []) ≡ follow t (told t log) r
   told_push t log r = fold_push (follow t) None log r

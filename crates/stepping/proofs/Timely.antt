@@ -2,6 +2,7 @@
 -- the bound; so a thread that made as many steps has been seen without an open operation.
 use Rattle.std.proofs.Common.{◌≡◌, ℕ, ◌+◌, ◌<◌, ◌≤◌, true, false, ◌≢◌, ◌⊎◌, List, [], ◌∷◌, ◌++◌, length, is_some, Some, None, Ok, Err, Option, sym, refl, ap, ◌∙◌, subst, inl, inr, arith, eq-eqb}
 use Rattle.std.proofs.lemmas.List.{append-nil, append_assoc}
+use Rattle.std.proofs.lemmas.Grind.{flat_map-append}
 use Rattle.std.proofs.lemmas.Bool.{cases_eq}
 use Rattle.items.specs.declared.Kind.{Ghosts as Kind}
 use Rattle.vector.specs.Plain.{map_op}
@@ -15,7 +16,7 @@ use Rattle.stepping.specs.declared.Open.{Open}
 use Rattle.stepping.specs.declared.Record.{Record}
 use Rattle.stepping.specs.declared.Event.{Event}
 use Rattle.stepping.specs.declared.Event.TheVariants.{SetUp as SetUpCall, Begin as BeginCall, Step as StepCall, Look as LookCall}
-use Rattle.stepping.proofs.Logs.{joined_append, joined_push}
+use Rattle.stepping.proofs.Logs.{joined_push}
 use Rattle.stepping.proofs.Passes.{set_up_passes, begin_passes, step_passes}
 use Rattle.stepping.proofs.Kept.{standing}
 use Rattle.stepping.proofs.Law.{Held, onward, after_run, parted, at_first, tells_then}
@@ -138,7 +139,7 @@ module _ {C K T : Type 0} (c : Container C) (k : Kind K T) (x w : C) (es : List 
       let b = after_run c k (recorded pre) p.0 q.0 mid q.1 a.lawful a.held in
       let f = steps_fall c k pre mid (recorded pre) p.0 q.0 t q.1 a.held refl during in
       let first : AloneIn t (recorded pre) = subst (λ (l : List (Event T)). AloneIn t (recorded l)) (append-nil pre) (during [] mid refl) in
-      let last : AloneIn t (recorded pre ++ recorded mid) = subst (AloneIn t) (joined_append records pre mid) (during mid [] (sym (append-nil mid))) in
+      let last : AloneIn t (recorded pre ++ recorded mid) = subst (AloneIn t) (flat_map-append records pre mid) (during mid [] (sym (append-nil mid))) in
       let bounded = a.lawful.left_alone t (alone c k (recorded pre) (c.shows p.0) t a.held first) in
       let more = b.lawful.left_alone t (alone c k (recorded pre ++ recorded mid) (c.shows q.0) t b.held last) in
       let same = ap (λ m. m.bound) a.make_same in
