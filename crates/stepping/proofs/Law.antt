@@ -134,16 +134,13 @@ module _ {C K T : Type 0} (c : Container C) (k : Kind K T) where
   }
 
   -- (a) each record is one that the call gave
-  joined_step : {A : Type 0} (f : Record T → List A) (effect : Option ℕ) (end : Option (Ended T)) → flat_map f (effect_record effect ++ end_record end) ≡ flat_map f (effect_record effect) ++ flat_map f (end_record end)
-  joined_step f effect end = flat_map-append f (effect_record effect) (end_record end)
-
   begins_of : (e : Event T) → flat_map begin_of (records e) ≡ granted_begin e
   begins_of (SetUpCall n m r) = refl
   begins_of (BeginCall t op (Ok n)) = refl
   begins_of (BeginCall t op (Err f)) = refl
-  begins_of (StepCall t (Ok s)) = joined_step begin_of s.effect s.end ∙ go s.effect s.end
+  begins_of (StepCall t (Ok s)) = go s.effect s.end
     where
-      go : (x : Option ℕ) (y : Option (Ended T)) → flat_map begin_of (effect_record {T = T} x) ++ flat_map begin_of (end_record y) ≡ []
+      go : (x : Option ℕ) (y : Option (Ended T)) → flat_map begin_of (effect_record {T = T} x ++ end_record y) ≡ []
       go None None = refl
       go None (Some e) = refl
       go (Some n) None = refl
@@ -155,9 +152,9 @@ module _ {C K T : Type 0} (c : Container C) (k : Kind K T) where
   effects_of (SetUpCall n m r) = refl
   effects_of (BeginCall t op (Ok n)) = refl
   effects_of (BeginCall t op (Err f)) = refl
-  effects_of (StepCall t (Ok s)) = joined_step effect_of s.effect s.end ∙ go s.effect s.end
+  effects_of (StepCall t (Ok s)) = go s.effect s.end
     where
-      go : (x : Option ℕ) (y : Option (Ended T)) → flat_map effect_of (effect_record {T = T} x) ++ flat_map effect_of (end_record y) ≡ the_effect x
+      go : (x : Option ℕ) (y : Option (Ended T)) → flat_map effect_of (effect_record {T = T} x ++ end_record y) ≡ the_effect x
       go None None = refl
       go None (Some e) = refl
       go (Some n) None = refl
@@ -169,9 +166,9 @@ module _ {C K T : Type 0} (c : Container C) (k : Kind K T) where
   ends_of (SetUpCall n m r) = refl
   ends_of (BeginCall t op (Ok n)) = refl
   ends_of (BeginCall t op (Err f)) = refl
-  ends_of (StepCall t (Ok s)) = joined_step end_of s.effect s.end ∙ go s.effect s.end
+  ends_of (StepCall t (Ok s)) = go s.effect s.end
     where
-      go : (x : Option ℕ) (y : Option (Ended T)) → flat_map end_of (effect_record {T = T} x) ++ flat_map end_of (end_record y) ≡ the_end y
+      go : (x : Option ℕ) (y : Option (Ended T)) → flat_map end_of (effect_record {T = T} x ++ end_record y) ≡ the_end y
       go None None = refl
       go None (Some e) = refl
       go (Some n) None = refl

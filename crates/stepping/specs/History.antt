@@ -1,5 +1,5 @@
 -- The history of a bench: the calls that led to it, with what they gave.
-use Rattle.std.specs.Prelude.{◌≡◌, List, [], ◌∷◌, ◌++◌, length, vec_items}
+use Rattle.std.specs.Prelude.{◌≡◌, ℕ, List, [], ◌∷◌, ◌++◌, length, vec_items}
 use Rattle.items.specs.declared.Kind.{Ghosts as Kind}
 use Rattle.vector.specs.Plain.{map_op}
 use Rattle.vector.specs.Meaning.{unset, Lawful}
@@ -45,6 +45,10 @@ module _ {C K T : Type 0} (c : Container C) (k : Kind K T) where
   abbrev pub Performed : List (Record T) → C → List (Event T) → C → Type 0
   Performed log x [] x' = x' ≡ x
   Performed log x (e ∷ es) x' = (u : C) × Does log x e u × Lawful (c.shows u) × Performed (log ++ records e) u es x'
+
+  -- the same, from some container with these words that was not yet set up
+  abbrev pub PerformedOver : List ℕ → List (Event T) → C → Type 0
+  PerformedOver words es x = (start : C) × ((c.shows start).meaning ≡ unset) × ((c.shows start).words ≡ words) × Performed [] start es x
 
   -- a whole run, from the container `start` to x: every call gave and did what it should, and the law of runs holds
   pub record Ran (start : C) (es : List (Event T)) (log : List (Record T)) (x : C) : Type 0 where

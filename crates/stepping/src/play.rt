@@ -1,8 +1,7 @@
 // A whole run: a container is made over a memory, a bench over the container, calls are played, and the bench is closed.
-ghost use Rattle.std.specs.Prelude.{◌≡◌, [], map, IfOk};
-ghost use Rattle.vector.specs.Meaning.{unset};
+ghost use Rattle.std.specs.Prelude.{◌≡◌, map, IfOk};
 ghost use Rattle.stepping.specs.Bench.{call_of};
-ghost use Rattle.stepping.specs.History.{Performed};
+ghost use Rattle.stepping.specs.History.{PerformedOver};
 ghost use Rattle.stepping.specs.Runs.{LawOfRuns};
 
 use crate::{Call, Closed, Event, Running};
@@ -26,7 +25,7 @@ pub fn play_over<M: Memory, C: Over<M> + Drop, K: Kind>(
     calls: &[Call<K::Item>],
 ) -> Result<Played<C, K>, AllocError>
     ensures called { IfOk result (λ p. map call_of p.events.items ≡ calls.now) }
-    ensures performed { IfOk result (λ p. (start : C) × ((C.Container.shows start).meaning ≡ unset) × ((C.Container.shows start).words ≡ M.words memory) × Performed C.Container K.Kind [] start p.events.items p.closed.container) }
+    ensures performed { IfOk result (λ p. PerformedOver C.Container K.Kind (M.words memory) p.events.items p.closed.container) }
     ensures law { IfOk result (λ p. LawOfRuns K.value (C.Container.shows p.closed.container).make.bound p.events.items p.closed.log.items (C.Container.shows p.closed.container).meaning) }
 {
     let container = C::over(memory);
