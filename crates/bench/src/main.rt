@@ -57,16 +57,13 @@ fn play(rt: &HostRuntime) -> anyhow::Result<()> {
 }
 
 fn run(rt: &HostRuntime) -> anyhow::Result<()> {
-    let mut words = env::args(rt)?.skip(1);
-    match words.next() {
+    match env::args(rt)?.nth(1).as_deref() {
         None => play(rt),
-        Some(word) => {
-            if word.as_str() == "--help" {
-                rt.print(HELP)?;
-                return Ok(());
-            }
-            Err(anyhow!("usage: bench < SCRIPT, or bench --help"))
+        Some("--help") => {
+            rt.print(HELP)?;
+            Ok(())
         }
+        Some(_) => Err(anyhow!("usage: bench < SCRIPT, or bench --help")),
     }
 }
 

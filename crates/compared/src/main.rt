@@ -2,36 +2,37 @@
 // An entry of a bundle is its length in decimal, a line feed, that many bytes, and a line feed.
 #![tactic(auto)]
 
-use anyhow::anyhow;
+ghost use Rattle.std.specs.Prelude.{◌<◌, length, IfSome};
+
+use anyhow::Context;
 use script_run::run_script;
 use std::io::{Read, Write};
 
 // The listing has this many bytes at most.
 const ROOM: usize = 65536;
 
+// A number in decimal; no digits are 0.
+fn number(digits: &[u8]) -> Option<usize> {
+    digits.iter().try_fold(0usize, |number, digit| {
+        let digit = char::from(*digit).to_digit(10)?;
+        number.checked_mul(10)?.checked_add(digit as usize)
+    })
+}
+
 // The first entry of a bundle and what follows it.
-fn first_entry(bundle: &[u8]) -> Option<(&[u8], &[u8])> {
-    let mut length = 0usize;
-    for (i, b) in bundle.iter().enumerate() {
-        if *b == b'\n' {
-            let start = i + 1;
-            let end = start.checked_add(length)?;
-            if end >= bundle.len() || bundle[end] != b'\n' {
-                return None;
-            }
-            return Some((&bundle[start..end], &bundle[end + 1..]));
-        }
-        if *b < b'0' || *b > b'9' {
-            return None;
-        }
-        length = length.checked_mul(10)?.checked_add((*b - b'0') as usize)?;
+fn first_entry(bundle: &[u8]) -> Option<(&[u8], &[u8])>
+    ensures { IfSome result (λ p. length p.1.now < length bundle.now) }
+{
+    let at = bundle.iter().position(|b| *b == b'\n')?;
+    let (entry, rest) = bundle[at + 1..].split_at_checked(number(&bundle[..at])?)?;
+    match rest.split_first() {
+        Some((b'\n', others)) => Some((entry, others)),
+        _ => None,
     }
-    None
 }
 
 fn show(rt: &HostRuntime, text: &[u8]) -> anyhow::Result<()> {
-    let length = text.len();
-    println!(rt; "{length}")?;
+    println!(rt; "{}", text.len())?;
     rt.stdout().write_all(text)?;
     println!(rt; "")?;
     Ok(())
@@ -56,13 +57,8 @@ fn run(rt: &HostRuntime) -> anyhow::Result<()> {
     let mut bundle = Vec::new(rt.alloc());
     rt.stdin().read_to_end(&mut bundle)?;
     let mut rest = bundle.as_slice();
-    for _ in 0..bundle.len() {
-        if rest.is_empty() {
-            break;
-        }
-        let Some((script, others)) = first_entry(rest) else {
-            return Err(anyhow!("this is no bundle"));
-        };
+    while !rest.is_empty() {
+        let (script, others) = first_entry(rest).context("this is no bundle")?;
         play(rt, script)?;
         rest = others;
     }

@@ -13,25 +13,12 @@ fn show_look(
 ) -> anyhow::Result<()> {
     match told {
         Ok(None) => println!(rt; "  look {thread}: nothing open")?,
-        Ok(Some(open)) => {
-            let number = open.number;
-            let effect = open.effect;
+        Ok(Some(Open { number, effect })) => {
             println!(rt; "  look {thread}: number {number}, took effect: {effect}")?
         }
-        Err(refusal) => {
-            let number = refusal.number();
-            println!(rt; "  look {thread}: refused {number}")?
-        }
+        Err(refusal) => println!(rt; "  look {thread}: refused {}", refusal.number())?,
     }
     Ok(())
-}
-
-// The number, or 0 where it is refused.
-fn number_of(begun: Result<u32, Refusal>) -> u32 {
-    match begun {
-        Ok(number) => number,
-        Err(_) => 0,
-    }
 }
 
 pub fn play_calls(rt: &HostRuntime) -> anyhow::Result<()> {
@@ -42,7 +29,7 @@ pub fn play_calls(rt: &HostRuntime) -> anyhow::Result<()> {
     show_look(rt, 1, bench.look(1))?;
     let _ = bench.set_up(2, 2);
     show_look(rt, 1, bench.look(1))?;
-    let number = number_of(bench.begin(1, Op::Push(17)));
+    let number = bench.begin(1, Op::Push(17)).unwrap_or(0);
     println!(rt; "  thread 1 begins number {number}")?;
     for _ in 0..4 {
         let _ = bench.step(1);

@@ -1,5 +1,5 @@
 // The faults that a script can have, and scripts next to them that have none.
-use script_run::run_script;
+use crate::scripts::{ROOM, listing_of};
 
 const CASES: [(&str, &str); 24] = [
     ("no header line", "# nothing\n\n"),
@@ -28,11 +28,10 @@ const CASES: [(&str, &str); 24] = [
     ("the call's fault before the form's", "dfn 2 2\n1 . 1\nx\n"),
 ];
 
-fn show_case(rt: &HostRuntime, title: &str, script: &str) -> anyhow::Result<()> {
-    let heap = rt.alloc();
-    let mut output = Vec::from_elem(heap, 0u8, 65536)?;
-    match run_script(heap, script.as_bytes(), output.as_mut_slice())? {
-        Ok(length) => println!(rt; "  {title}: {length} bytes listed")?,
+// What comes of a script whose output has so many bytes.
+fn show_fate(rt: &HostRuntime, title: &str, script: &[u8], room: usize) -> anyhow::Result<()> {
+    match listing_of(rt.alloc(), script, room)? {
+        Ok(listing) => println!(rt; "  {title}: {} bytes listed", listing.len())?,
         Err(fault) => println!(rt; "  {title}: {fault}")?,
     }
     Ok(())
@@ -41,35 +40,22 @@ fn show_case(rt: &HostRuntime, title: &str, script: &str) -> anyhow::Result<()> 
 // A script of a header and empty lines, of so many bytes.
 fn show_long(rt: &HostRuntime, count: usize) -> anyhow::Result<()> {
     let heap = rt.alloc();
-    let mut script = Vec::from_elem(heap, b'\n', count)?;
-    for (at, b) in b"dfn 2 2\n".iter().enumerate() {
-        if let Some(place) = script.get_mut(at) {
-            *place = *b;
-        }
-    }
-    let mut output = Vec::from_elem(heap, 0u8, 65536)?;
-    match run_script(heap, script.as_slice(), output.as_mut_slice())? {
-        Ok(length) => println!(rt; "  a script of {count} bytes: {length} bytes listed")?,
-        Err(fault) => println!(rt; "  a script of {count} bytes: {fault}")?,
-    }
-    Ok(())
+    let mut script = Vec::from_slice(heap, b"dfn 2 2\n")?;
+    script.resize(count, b'\n')?;
+    let title = format!(in heap; "a script of {count} bytes")?;
+    show_fate(rt, title.as_str(), script.as_slice(), ROOM)
 }
 
 // The listing of one push is 15 bytes.
 fn show_room(rt: &HostRuntime, room: usize) -> anyhow::Result<()> {
-    let heap = rt.alloc();
-    let mut output = Vec::from_elem(heap, 0u8, room)?;
-    match run_script(heap, b"dfn 2 2\n1 + 17\n", output.as_mut_slice())? {
-        Ok(length) => println!(rt; "  15 bytes for an output of {room}: {length} bytes listed")?,
-        Err(fault) => println!(rt; "  15 bytes for an output of {room}: {fault}")?,
-    }
-    Ok(())
+    let title = format!(in rt.alloc(); "15 bytes for an output of {room}")?;
+    show_fate(rt, title.as_str(), b"dfn 2 2\n1 + 17\n", room)
 }
 
 pub fn play_faults(rt: &HostRuntime) -> anyhow::Result<()> {
     println!(rt; "faults")?;
     for (title, script) in CASES {
-        show_case(rt, title, script)?;
+        show_fate(rt, title, script.as_bytes(), ROOM)?;
     }
     show_long(rt, 16384)?;
     show_long(rt, 16385)?;

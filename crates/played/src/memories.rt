@@ -5,10 +5,7 @@ use memory::{BucketedMemory, FlatMemory, Memory, Swapped, place};
 fn show_load<M: Memory>(rt: &HostRuntime, memory: &M, at: usize) -> anyhow::Result<()> {
     match memory.load(at) {
         Ok(word) => println!(rt; "  load {at}: {word}")?,
-        Err(refusal) => {
-            let number = refusal.number();
-            println!(rt; "  load {at}: refused {number}")?
-        }
+        Err(refusal) => println!(rt; "  load {at}: refused {}", refusal.number())?,
     }
     Ok(())
 }
@@ -23,10 +20,10 @@ fn show_swap<M: Memory>(
     match memory.swap(at, old, new) {
         Ok(Swapped::Yes) => println!(rt; "  swap {at} from {old} to {new}: yes")?,
         Ok(Swapped::No) => println!(rt; "  swap {at} from {old} to {new}: no")?,
-        Err(refusal) => {
-            let number = refusal.number();
-            println!(rt; "  swap {at} from {old} to {new}: refused {number}")?
-        }
+        Err(refusal) => println!(rt;
+            "  swap {at} from {old} to {new}: refused {}",
+            refusal.number()
+        )?,
     }
     Ok(())
 }

@@ -1,16 +1,30 @@
 // Scripts of every make of bench, with what comes of each.
+use script::Fault;
 use script_run::run_script;
+use std::alloc::{AllocError, Global};
 use std::io::Write;
 
+// A listing has this many bytes at most.
+pub const ROOM: usize = 65536;
+
+// The listing of a script, where an output of so many bytes has room for it, or its fault.
+pub fn listing_of(
+    heap: Global,
+    script: &[u8],
+    room: usize,
+) -> Result<Result<Vec<u8>, Fault>, AllocError> {
+    let mut output = Vec::from_elem(heap, 0u8, room)?;
+    let played = run_script(heap, script, output.as_mut_slice())?;
+    Ok(played.map(|length| {
+        output.truncate(length);
+        output
+    }))
+}
+
 fn show_script(rt: &HostRuntime, title: &str, script: &str) -> anyhow::Result<()> {
-    let heap = rt.alloc();
-    let mut output = Vec::from_elem(heap, 0u8, 65536)?;
     println!(rt; "{title}")?;
-    match run_script(heap, script.as_bytes(), output.as_mut_slice())? {
-        Ok(length) => {
-            output.truncate(length);
-            rt.stdout().write_all(output.as_slice())?;
-        }
+    match listing_of(rt.alloc(), script.as_bytes(), ROOM)? {
+        Ok(listing) => rt.stdout().write_all(listing.as_slice())?,
         Err(fault) => println!(rt; "{fault}")?,
     }
     Ok(())

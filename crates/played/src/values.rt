@@ -1,5 +1,6 @@
 // Items turned into values and back.
 use items::{Kind, Numbers, Point, Points};
+use std::fmt;
 
 pub fn play_numbers(rt: &HostRuntime) -> anyhow::Result<()> {
     println!(rt; "numbers as values, and back")?;
@@ -11,18 +12,24 @@ pub fn play_numbers(rt: &HostRuntime) -> anyhow::Result<()> {
     Ok(())
 }
 
+// A point's coordinates, as they are printed.
+#[derive(Drop)]
+struct Shown(Point);
+
+impl fmt::Display for Shown {
+    fn fmt<W: fmt::Write>(&self, f: &mut fmt::Formatter<W>) -> fmt::Result {
+        write!(f, "{},{},{}", self.0.x(), self.0.y(), self.0.z())
+    }
+}
+
 fn show_point(rt: &HostRuntime, x: i64, y: i64, z: i64) -> anyhow::Result<()> {
     match Point::new(x, y, z) {
         Ok(point) => {
             let value = Points::to_value(point);
-            let back = Points::to_item(value);
-            let (a, b, c) = (back.x(), back.y(), back.z());
-            println!(rt; "  {x},{y},{z}: {value}: {a},{b},{c}")?
+            let back = Shown(Points::to_item(value));
+            println!(rt; "  {x},{y},{z}: {value}: {back}")?
         }
-        Err(refusal) => {
-            let number = refusal.number();
-            println!(rt; "  {x},{y},{z}: refused {number}")?
-        }
+        Err(refusal) => println!(rt; "  {x},{y},{z}: refused {}", refusal.number())?,
     }
     Ok(())
 }
@@ -34,8 +41,7 @@ pub fn play_points(rt: &HostRuntime) -> anyhow::Result<()> {
     show_point(rt, 511, 511, 511)?;
     show_point(rt, -1, 2, -3)?;
     show_point(rt, 0, 512, 0)?;
-    let high = Points::to_item(4294967295);
-    let (a, b, c) = (high.x(), high.y(), high.z());
-    println!(rt; "  value 4294967295: {a},{b},{c}")?;
+    let high = Shown(Points::to_item(4294967295));
+    println!(rt; "  value 4294967295: {high}")?;
     Ok(())
 }
