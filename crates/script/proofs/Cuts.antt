@@ -1,11 +1,14 @@
 -- The lines of a script, one by one.
-use Rattle.std.proofs.Common.{◌≡◌, ℕ, zero, suc, ◌<◌, Bool, true, false, cond, not, ◌||◌, eqb, ltb, List, [], ◌∷◌, length, Some, None, Ok, Err, IsAscii, MatchBool, Option, sym, refl, ap, ◌∙◌, ⊎_elim, arith}
+use Rattle.std.proofs.Common.{◌≡◌, ℕ, zero, suc, ◌<◌, Bool, true, false, cond, not, ◌||◌, eqb, is_some, ltb, List, [], ◌∷◌, length, Some, None, Ok, Err, IsAscii, MatchBool, Option, sym, refl, ap, ◌∙◌, ⊎_elim, arith}
 use Rattle.script.specs.Opening.{has_header}
 use Rattle.std.proofs.lemmas.Bool.{and_from, and_parts, lt-ltb, ltb-true, cases_Bool}
 use Rattle.std.specs.Str.{IsNotAscii}
+use Rattle.std.specs.Borrow.{Bor}
+use Rattle.std.specs.List.{list_any}
+use Rattle.std.specs.Option.{option_map, unwrap_or}
+use Rattle.script.proofs.Parts.{before_all}
 use Rattle.script.specs.Fields.{before, after}
-use Rattle.script.specs.Lines.{longer, lines_of, ascii, skipped, entries, next_number}
-use Rattle.refusal.specs.declared.Refusal.TheVariants.{NotOfAForm}
+use Rattle.script.specs.Lines.{longer, lines_of, ascii, skipped}
 
 ascii_true : (bs : List ℕ) → IsAscii bs → ascii bs ≡ true
 ascii_true [] h = refl
@@ -50,49 +53,27 @@ pub after_shorter : (xs rest : List ℕ) → after 10 xs ≡ Some rest → lengt
 after_shorter [] rest e = let z : ◌≡◌ {A = ℕ} 0 1 = cc in absurd (omega arith)
 after_shorter (x ∷ xs) rest e = shorter_if (eqb x 10) xs rest (after_shorter xs rest) e
 
-module _ (n : ℕ) (xs rest t : List ℕ) (a : after 10 xs ≡ Some rest) (is : t ≡ before 10 xs) where
-  pub entry_bad : ascii t ≡ false → entries n (lines_of xs) ≡ (n, Err NotOfAForm) ∷ entries (next_number n) (lines_of rest)
-  entry_bad f = rw (lines_cut xs rest a, ← is, f)
+first_row : (xs : List ℕ) (r : Option (Bor (List ℕ))) (d : Bor (List ℕ)) → option_map (λ x. x.now) r ≡ after 10 xs → 0 < length xs → d.now ≡ []
+    → lines_of xs ≡ (before 10 xs, is_some r) ∷ lines_of (unwrap_or r d).now
+first_row xs (Some rest) d a some none = lines_cut xs rest.now (sym a)
+first_row [] None d a some none = absurd (omega arith)
+first_row (x ∷ xs) None d a some none =
+    lines_end (x ∷ xs) (sym a) ∙ ap (λ (t : List ℕ). (t, false) ∷ []) (sym (before_all 10 (x ∷ xs) (sym a)))
+    ∙ ap (λ (ls : List (List ℕ × Bool)). (before 10 (x ∷ xs), false) ∷ ls) (ap lines_of (sym none))
 
-  pub entry_text : ascii t ≡ true → skipped t ≡ false → entries n (lines_of xs) ≡ (n, Ok t) ∷ entries (next_number n) (lines_of rest)
-  entry_text g s = rw (lines_cut xs rest a, ← is, g, s)
+left_shorter : (xs : List ℕ) (r : Option (Bor (List ℕ))) (d : Bor (List ℕ)) → option_map (λ x. x.now) r ≡ after 10 xs → 0 < length xs → d.now ≡ []
+    → length (unwrap_or r d).now < length xs
+left_shorter xs (Some rest) d a some none = after_shorter xs rest.now (sym a)
+left_shorter xs None d a some none = omega (arith, ap length none)
 
-  pub entry_skipped : ascii t ≡ true → skipped t ≡ true → entries n (lines_of xs) ≡ entries (next_number n) (lines_of rest)
-  entry_skipped g s = rw (lines_cut xs rest a, ← is, g, s)
+-- the first line, whether it is ended, and what is left after it
+module _ (xs : List ℕ) (r : Option (Bor (List ℕ))) (rest d : Bor (List ℕ)) (a : option_map (λ x. x.now) r ≡ after 10 xs) (some : 0 < length xs) (is : rest ≡ unwrap_or r d) (none : d.now ≡ []) where
+  pub row_first : lines_of xs ≡ (before 10 xs, is_some r) ∷ lines_of rest.now
+  row_first = rw is (first_row xs r d a some none)
 
-pub entry_last : (n : ℕ) (xs : List ℕ) → 0 < length xs → after 10 xs ≡ None → entries n (lines_of xs) ≡ (n, Err NotOfAForm) ∷ []
-entry_last n [] some a = absurd (omega arith)
-entry_last n (x ∷ xs) some a = ap (entries n) (lines_end (x ∷ xs) a)
+  pub row_shorter : length rest.now < length xs
+  row_shorter = rw is (left_shorter xs r d a some none)
 
-pub no_entry : (n : ℕ) (xs : List ℕ) → length xs ≡ 0 → entries n (lines_of xs) ≡ []
-no_entry n [] e = refl
-no_entry n (x ∷ xs) e = absurd (omega arith)
-
-whole_if : (b : Bool) (x : ℕ) (xs : List ℕ) → (after 10 xs ≡ None → before 10 xs ≡ xs) → cond b (Some xs) (after 10 xs) ≡ None → cond b [] (x ∷ before 10 xs) ≡ x ∷ xs
-whole_if true x xs ih e = let z : ◌≡◌ {A = ℕ} 0 1 = cc in absurd (omega arith)
-whole_if false x xs ih e = ap (λ l. x ∷ l) (ih e)
-
-before_whole : (xs : List ℕ) → after 10 xs ≡ None → before 10 xs ≡ xs
-before_whole [] e = refl
-before_whole (x ∷ xs) e = whole_if (eqb x 10) x xs (before_whole xs) e
-
-first_last : (xs : List ℕ) → 0 < length xs → after 10 xs ≡ None → has_header (lines_of xs) ≡ (not (skipped (before 10 xs)) || false)
-first_last [] some a = absurd (omega arith)
-first_last (x ∷ xs) some a = ap has_header (lines_end (x ∷ xs) a) ∙ ap (λ t. not (skipped t) || false) (sym (before_whole (x ∷ xs) a))
-
-first_some : (xs : List ℕ) (o : Option (List ℕ)) → after 10 xs ≡ o → 0 < length xs → skipped (before 10 xs) ≡ false → has_header (lines_of xs) ≡ true
-first_some xs (Some rest) a some s = rw (lines_cut xs rest a, s)
-first_some xs None a some s = first_last xs some a ∙ rw s
-
-pub first_here : (xs t : List ℕ) → t ≡ before 10 xs → 0 < length xs → skipped t ≡ false → has_header (lines_of xs) ≡ true
-first_here xs t is some s = first_some xs (after 10 xs) refl some (ap skipped (sym is) ∙ s)
-
-pub first_never : (xs t : List ℕ) → t ≡ before 10 xs → 0 < length xs → after 10 xs ≡ None → skipped t ≡ true → has_header (lines_of xs) ≡ false
-first_never xs t is some a s = first_last xs some a ∙ rw (← is, s)
-
-pub first_later : (xs rest t : List ℕ) → t ≡ before 10 xs → after 10 xs ≡ Some rest → skipped t ≡ true → has_header (lines_of xs) ≡ has_header (lines_of rest)
-first_later xs rest t is a s = rw (lines_cut xs rest a, ← is, s)
-
-pub first_none : (xs : List ℕ) → length xs ≡ 0 → has_header (lines_of xs) ≡ false
-first_none [] e = refl
-first_none (x ∷ xs) e = absurd (omega arith)
+pub any_header : (ls : List (List ℕ × Bool)) → list_any (λ l. not (skipped l.0)) ls ≡ has_header ls
+any_header [] = refl
+any_header (l ∷ ls) = ap (λ b. not (skipped l.0) || b) (any_header ls)

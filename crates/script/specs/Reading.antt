@@ -12,7 +12,7 @@ use Rattle.script.specs.declared.opening.Script.{Script}
 
 -- the lines still to be read that are not skipped
 abbrev pub texts_left : Lines → List EntryText
-texts_left l = entries l.number (lines_of l.rest.now)
+texts_left l = entries l.number (lines_of l.rest.bytes.now)
 
 -- the header with the number of its line, and the lines after it
 abbrev pub script_in : Result Script Fault → Result (ℕ × Header × List EntryText) Fault

@@ -2,7 +2,7 @@
 ghost use Rattle.std.specs.Prelude.{◌≡◌, Some};
 ghost use Rattle.script.specs.Commands.{op_alone, op_with, count_of, told, command_of};
 
-use crate::fields::split;
+use crate::fields::{cut, split};
 use crate::numbers::number;
 use crate::read_item::ReadItem;
 use refusal::Refusal;
@@ -30,21 +30,10 @@ fn with_arguments<T: ReadItem>(letter: char, arguments: &[u8]) -> Result<Op<T>, 
 {
     match letter {
         '+' => Ok(Op::Push(T::read_item(arguments)?)),
-        'r' => {
-            let Some(index) = number(arguments) else {
-                return Err(Refusal::NotOfAForm);
-            };
-            Ok(Op::Read(index))
-        }
+        'r' => Ok(Op::Read(number(arguments)?)),
         'w' => {
-            let (index, item) = split(arguments, b' ');
-            let Some(index) = number(index) else {
-                return Err(Refusal::NotOfAForm);
-            };
-            let Some(item) = item else {
-                return Err(Refusal::NotOfAForm);
-            };
-            Ok(Op::Write(index, T::read_item(item)?))
+            let (index, item) = cut(arguments, b' ')?;
+            Ok(Op::Write(number(index)?, T::read_item(item)?))
         }
         _ => Err(Refusal::NotOfAForm),
     }
@@ -53,13 +42,10 @@ fn with_arguments<T: ReadItem>(letter: char, arguments: &[u8]) -> Result<Op<T>, 
 fn step_count(text: &[u8]) -> Result<usize, Refusal>
     ensures { result ≡ count_of text.now }
 {
-    let Some(count) = number(text) else {
-        return Err(Refusal::NotOfAForm);
-    };
-    if count < 1 || count > 999 {
-        return Err(Refusal::OutOfRange);
+    match number(text)? {
+        count @ 1..=999 => Ok(count),
+        _ => Err(Refusal::OutOfRange),
     }
-    Ok(count)
 }
 
 // A line with something after its letter.
@@ -75,18 +61,13 @@ fn with_more<T: ReadItem>(thread: usize, letter: char, more: &[u8]) -> Result<Co
 pub(crate) fn read_command<T: ReadItem>(line: &[u8]) -> Result<Command<T>, Refusal>
     ensures { result ≡ command_of T.ReadItem.reads line.now }
 {
-    let (thread, rest) = split(line, b' ');
-    let Some(thread) = number(thread) else {
-        return Err(Refusal::NotOfAForm);
-    };
-    let Some(rest) = rest else {
-        return Err(Refusal::NotOfAForm);
-    };
+    let (thread, rest) = cut(line, b' ')?;
+    let thread = number(thread)?;
     let (word, more) = split(rest, b' ');
-    if word.len() != 1 {
+    let [letter] = word else {
         return Err(Refusal::NotOfAForm);
-    }
-    let letter = word[0] as char;
+    };
+    let letter = char::from(*letter);
     match more {
         Some(more) => with_more(thread, letter, more),
         None => Ok(Command::Begin(thread, alone(letter)?)),

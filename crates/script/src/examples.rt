@@ -1,8 +1,7 @@
 // The forms of scripts by example.
 ghost use Rattle.script.specs.Examples.{Examples};
 
-pub fn examples_hold() -> u8
+pub fn examples_hold()
     ensures { Examples }
 {
-    0
 }

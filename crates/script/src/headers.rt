@@ -1,9 +1,12 @@
 // The first line of a script.
 ghost use Rattle.std.specs.Prelude.{◌≡◌};
+ghost use Rattle.std.specs.Option.{ok_or};
+ghost use Rattle.refusal.specs.declared.Refusal.TheVariants.{NotOfAForm};
 ghost use Rattle.script.specs.Headers.{container_of, memory_of, kind_of, header_of};
 
-use crate::fields::split;
+use crate::fields::cut;
 use crate::numbers::number;
+use refusal::Refusal;
 
 #[derive(Clone, Copy)]
 pub enum ContainerChoice {
@@ -32,49 +35,61 @@ pub struct Header {
     pub threads: usize,
 }
 
-fn container(letter: char) -> Option<ContainerChoice>
-    ensures { result ≡ container_of letter }
-{
-    match letter {
-        'd' => Some(ContainerChoice::Descriptor),
-        'g' => Some(ContainerChoice::Lock),
-        _ => None,
+impl TryFrom<char> for ContainerChoice {
+    type Error = Refusal;
+
+    ghost try_from_gives = { λ letter r. r ≡ ok_or (container_of letter) NotOfAForm };
+
+    fn try_from(letter: char) -> Result<Self, Refusal> {
+        match letter {
+            'd' => Ok(ContainerChoice::Descriptor),
+            'g' => Ok(ContainerChoice::Lock),
+            _ => Err(Refusal::NotOfAForm),
+        }
     }
 }
 
-fn memory(letter: char) -> Option<MemoryChoice>
-    ensures { result ≡ memory_of letter }
-{
-    match letter {
-        'f' => Some(MemoryChoice::Flat),
-        'b' => Some(MemoryChoice::Bucketed),
-        _ => None,
+impl TryFrom<char> for MemoryChoice {
+    type Error = Refusal;
+
+    ghost try_from_gives = { λ letter r. r ≡ ok_or (memory_of letter) NotOfAForm };
+
+    fn try_from(letter: char) -> Result<Self, Refusal> {
+        match letter {
+            'f' => Ok(MemoryChoice::Flat),
+            'b' => Ok(MemoryChoice::Bucketed),
+            _ => Err(Refusal::NotOfAForm),
+        }
     }
 }
 
-fn kind(letter: char) -> Option<KindChoice>
-    ensures { result ≡ kind_of letter }
-{
-    match letter {
-        'n' => Some(KindChoice::Numbers),
-        'p' => Some(KindChoice::Points),
-        _ => None,
+impl TryFrom<char> for KindChoice {
+    type Error = Refusal;
+
+    ghost try_from_gives = { λ letter r. r ≡ ok_or (kind_of letter) NotOfAForm };
+
+    fn try_from(letter: char) -> Result<Self, Refusal> {
+        match letter {
+            'n' => Ok(KindChoice::Numbers),
+            'p' => Ok(KindChoice::Points),
+            _ => Err(Refusal::NotOfAForm),
+        }
     }
 }
 
-pub(crate) fn read_header(line: &[u8]) -> Option<Header>
-    ensures { result ≡ header_of line.now }
+pub(crate) fn read_header(line: &[u8]) -> Result<Header, Refusal>
+    ensures { result ≡ ok_or (header_of line.now) Refusal.NotOfAForm }
 {
-    let (letters, rest) = split(line, b' ');
-    let (capacity, threads) = split(rest?, b' ');
-    if letters.len() != 3 {
-        return None;
-    }
-    Some(Header {
-        container: container(letters[0] as char)?,
-        memory: memory(letters[1] as char)?,
-        kind: kind(letters[2] as char)?,
+    let (letters, rest) = cut(line, b' ')?;
+    let (capacity, threads) = cut(rest, b' ')?;
+    let [container, memory, kind] = letters else {
+        return Err(Refusal::NotOfAForm);
+    };
+    Ok(Header {
+        container: ContainerChoice::try_from(char::from(*container))?,
+        memory: MemoryChoice::try_from(char::from(*memory))?,
+        kind: KindChoice::try_from(char::from(*kind))?,
         capacity: number(capacity)?,
-        threads: number(threads?)?,
+        threads: number(threads)?,
     })
 }

@@ -1,49 +1,44 @@
 // Numbers of one to ten decimal digits.
-ghost use Rattle.std.specs.Prelude.{◌≡◌, ◌^◌, ◌<◌, IfSome};
-ghost use Rattle.script.specs.Numbers.{number_of, minus, unsigned, with_sign, signed_of};
+ghost use Rattle.std.specs.Prelude.{◌≡◌, ◌^◌, ◌<◌, IfOk};
+ghost use Rattle.std.specs.Option.{ok_or};
+ghost use Rattle.std.specs.Result.{result_map_both};
+ghost use Rattle.std.specs.Fn.{FnOnceReturnsAt};
+ghost use Rattle.script.specs.Numbers.{number_of, minus, unsigned, with_sign};
+
+use refusal::Refusal;
 
 // A number has one digit at least, and this many at most.
 const MOST_DIGITS: usize = 10;
 
-pub(crate) fn number(text: &[u8]) -> Option<usize>
-    ensures value { result ≡ number_of text.now }
-    ensures small { IfSome result (λ n. n < 10 ^ 10) }
+// No `parse`, which takes a plus in front and any count of digits.
+pub(crate) fn number(text: &[u8]) -> Result<usize, Refusal>
+    ensures value { result ≡ ok_or (number_of text.now) Refusal.NotOfAForm }
+    ensures small { IfOk result (λ n. n < 10 ^ 10) }
 {
     if text.is_empty() || text.len() > MOST_DIGITS {
-        return None;
+        return Err(Refusal::NotOfAForm);
     }
     let mut n = 0;
     for b in text {
         if !b.is_ascii_digit() {
-            return None;
+            return Err(Refusal::NotOfAForm);
         }
-        n = n * 10 + (*b - b'0') as usize;
+        n = n * 10 + usize::from(*b - b'0');
     }
-    Some(n)
+    Ok(n)
 }
 
-// Whether there is a minus in front, and what follows it.
-pub(crate) fn sign(text: &[u8]) -> (bool, &[u8])
-    ensures minus { result.0 ≡ minus text.now }
-    ensures digits { result.1.now ≡ unsigned text.now }
+// What `read` makes of a text, or of what follows a minus in front of it, with that sign.
+pub(crate) fn signed<F: FnOnce(&[u8]) -> Result<usize, Refusal>>(
+    text: &[u8],
+    read: F,
+) -> Result<i64, Refusal>
+    requires callable { F.IsAlwaysCallable read }
+    requires small { (r : _) → FnOnceReturnsAt F.FnOnce read (unsigned text.now) r → IfOk r (λ n. n < 2 ^ 63) }
+    ensures { (r : _) × FnOnceReturnsAt F.FnOnce read (unsigned text.now) r × (result ≡ result_map_both (with_sign (minus text.now)) (λ why. why) r) }
 {
-    if text.is_empty() || text[0] != b'-' {
-        return (false, text);
+    match text.strip_prefix(b"-") {
+        Some(digits) => Ok(-(read(digits)? as i64)),
+        None => Ok(read(text)? as i64),
     }
-    (true, &text[1..])
-}
-
-pub(crate) fn with_sign(minus: bool, n: usize) -> i64
-    requires { n < 2 ^ 63 }
-    ensures { result ≡ with_sign minus n }
-{
-    if minus { -(n as i64) } else { n as i64 }
-}
-
-// A number with a minus in front, or none.
-pub(crate) fn signed(text: &[u8]) -> Option<i64>
-    ensures { result ≡ signed_of text.now }
-{
-    let (minus, digits) = sign(text);
-    Some(with_sign(minus, number(digits)?))
 }

@@ -1,13 +1,12 @@
 // The beginning of a script: its length, its header, and the lines to come.
 ghost use Rattle.std.specs.Prelude.{◌≡◌};
 ghost use Rattle.script.specs.Opening.{opened};
-ghost use Rattle.script.specs.Faults.{at_line};
 ghost use Rattle.script.specs.Reading.{script_in};
 
 use crate::fault::Fault;
 use crate::headers::{Header, read_header};
-use crate::lines::Lines;
-use crate::texts::{has_header_line, next_entry};
+use crate::lines::{Entry, Lines};
+use crate::texts::{Rows, has_header_line};
 use refusal::Refusal;
 
 // A script whose header was read: the number of its line, what it says, and the lines after it.
@@ -23,37 +22,24 @@ pub fn open(bytes: &[u8]) -> Result<Script<'_>, Fault>
     ensures { script_in result ≡ opened bytes.now }
 {
     if bytes.len() > 16384 {
-        return Err(whole(Refusal::ScriptTooLong));
+        return Err(Fault::whole(Refusal::ScriptTooLong));
     }
     if !has_header_line(bytes) {
-        return Err(whole(Refusal::NoHeaderLine));
+        return Err(Fault::whole(Refusal::NoHeaderLine));
     }
-    let Some(entry) = next_entry(bytes, 1) else {
-        return Err(whole(Refusal::NoHeaderLine));
+    let mut lines = Lines {
+        rest: Rows { bytes },
+        number: 1,
     };
-    let line = entry.number;
-    match entry.text {
-        Err(refusal) => Err(Fault { line, refusal }),
-        Ok(text) => match read_header(text) {
-            None => Err(Fault {
-                line,
-                refusal: Refusal::NotOfAForm,
-            }),
-            Some(header) => Ok(Script {
-                line,
-                header,
-                lines: Lines {
-                    rest: entry.rest,
-                    number: line.saturating_add(1),
-                },
-            }),
-        },
-    }
-}
-
-// A fault of the whole script, and of no line.
-fn whole(refusal: Refusal) -> Fault
-    ensures { result ≡ at_line 0 refusal }
-{
-    Fault { line: 0, refusal }
+    let Entry { number: line, text } = lines
+        .next_text()
+        .ok_or(Fault::whole(Refusal::NoHeaderLine))?;
+    let header = text
+        .and_then(read_header)
+        .map_err(|refusal| Fault { line, refusal })?;
+    Ok(Script {
+        line,
+        header,
+        lines,
+    })
 }

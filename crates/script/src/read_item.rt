@@ -1,10 +1,11 @@
 // Items read from the text of a field.
-ghost use Rattle.std.specs.Prelude.{◌≡◌, ℕ, ◌+◌, ◌^◌, ◌<◌, List, IfSome, Result};
-ghost use Rattle.script.specs.Items.{number_item, point_at, point_item, magnitude_of, coordinate_of};
+ghost use Rattle.std.specs.Prelude.{◌≡◌, ℕ, ◌+◌, ◌^◌, ◌<◌, List, IfOk, Result};
+ghost use Rattle.std.specs.Option.{ok_or};
+ghost use Rattle.script.specs.Items.{number_item, point_item, magnitude_of, coordinate_of};
 ghost use Rattle.refusal.specs.declared.Refusal.{Refusal};
 
-use crate::fields::split;
-use crate::numbers::{number, sign, signed, with_sign};
+use crate::fields::{cut, split};
+use crate::numbers::{number, signed};
 use items::Point;
 use refusal::Refusal;
 
@@ -19,64 +20,36 @@ impl ReadItem for i32 {
     ghost reads = { number_item };
 
     fn read_item(text: &[u8]) -> Result<i32, Refusal> {
-        let Some(n) = signed(text) else {
-            return Err(Refusal::NotOfAForm);
-        };
-        if n < -2147483648 || n > 2147483647 {
-            return Err(Refusal::OutOfRange);
-        }
-        Ok(n as i32)
+        i32::try_from(signed(text, number)?).map_err(|_| Refusal::OutOfRange)
     }
 }
 
 // Digits, with one decimal or none, rounded to a whole number, halves upwards.
-fn magnitude(digits: &[u8]) -> Option<usize>
-    ensures value { result ≡ magnitude_of digits.now }
-    ensures small { IfSome result (λ n. n < 10 ^ 10 + 1) }
+fn magnitude(digits: &[u8]) -> Result<usize, Refusal>
+    ensures value { result ≡ ok_or (magnitude_of digits.now) Refusal.NotOfAForm }
+    ensures small { IfOk result (λ n. n < 10 ^ 10 + 1) }
 {
     let (whole, tenth) = split(digits, b'.');
     let n = number(whole)?;
-    let Some(tenth) = tenth else {
-        return Some(n);
-    };
-    if tenth.len() != 1 {
-        return None;
+    match tenth {
+        None | Some([b'0'..=b'4']) => Ok(n),
+        Some([b'5'..=b'9']) => Ok(n + 1),
+        Some(_) => Err(Refusal::NotOfAForm),
     }
-    let t = number(tenth)?;
-    if t < 5 {
-        return Some(n);
-    }
-    Some(n + 1)
 }
 
-fn coordinate(text: &[u8]) -> Option<i64>
-    ensures { result ≡ coordinate_of text.now }
+fn coordinate(text: &[u8]) -> Result<i64, Refusal>
+    ensures { result ≡ ok_or (coordinate_of text.now) Refusal.NotOfAForm }
 {
-    let (minus, digits) = sign(text);
-    Some(with_sign(minus, magnitude(digits)?))
-}
-
-fn point_at(x: i64, y: i64, z: i64) -> Result<Point, Refusal>
-    ensures { result ≡ point_at x y z }
-{
-    Point::new(x, y, z)
+    signed(text, magnitude)
 }
 
 impl ReadItem for Point {
     ghost reads = { point_item };
 
     fn read_item(text: &[u8]) -> Result<Point, Refusal> {
-        let (x, rest) = split(text, b',');
-        let Some(rest) = rest else {
-            return Err(Refusal::NotOfAForm);
-        };
-        let (y, rest) = split(rest, b',');
-        let Some(z) = rest else {
-            return Err(Refusal::NotOfAForm);
-        };
-        match (coordinate(x), coordinate(y), coordinate(z)) {
-            (Some(x), Some(y), Some(z)) => point_at(x, y, z),
-            _ => Err(Refusal::NotOfAForm),
-        }
+        let (x, rest) = cut(text, b',')?;
+        let (y, z) = cut(rest, b',')?;
+        Point::new(coordinate(x)?, coordinate(y)?, coordinate(z)?)
     }
 }

@@ -1,81 +1,71 @@
-// The lines of a script that are not skipped, as text, with their numbers.
-ghost use Rattle.std.specs.Prelude.{◌≡◌};
+// The lines of a script as text, one after the other.
+ghost use Rattle.std.specs.Prelude.{◌≡◌, cond, ◌&&◌, Ok, Err};
+ghost use Rattle.std.specs.Iterator.{YieldsFirstBy, item_count};
+ghost use Rattle.refusal.specs.declared.Refusal.TheVariants.{NotOfAForm};
+ghost use Rattle.script.specs.Entries.{text_of, row_of};
 ghost use Rattle.script.specs.Lines.{ascii, skipped, lines_of};
 ghost use Rattle.script.specs.Opening.{has_header};
-ghost use Rattle.script.specs.Entries.{NextEntry};
 
 use crate::fields::split;
 use refusal::Refusal;
 
-// A line that is not skipped: its number, its text unless it is not of a form, and the lines after it.
+// A line's text, and whether a line feed ends it.
 #[derive(Clone, Copy)]
-pub(crate) struct Entry<'a> {
-    pub(crate) number: usize,
-    pub(crate) text: Result<&'a [u8], Refusal>,
-    pub(crate) rest: &'a [u8],
+pub(crate) struct Row<'a> {
+    pub(crate) text: &'a [u8],
+    pub(crate) ended: bool,
 }
 
-fn is_ascii(text: &[u8]) -> bool
-    ensures { result ≡ ascii text.now }
-{
-    text.is_ascii()
+impl<'a> Row<'a> {
+    // The text, unless the line is not of a form.
+    pub(crate) fn of_form(self) -> Result<&'a [u8], Refusal>
+        ensures { text_of result ≡ cond (self.entry.ended && ascii self.entry.text.now) (Ok self.entry.text.now) (Err NotOfAForm) }
+    {
+        if self.ended && self.text.is_ascii() {
+            Ok(self.text)
+        } else {
+            Err(Refusal::NotOfAForm)
+        }
+    }
 }
 
-fn is_skipped(text: &[u8]) -> bool
+// The lines in the bytes that are left.
+#[derive(Clone, Copy)]
+pub(crate) struct Rows<'a> {
+    pub(crate) bytes: &'a [u8],
+}
+
+impl<'a> Iterator for Rows<'a> {
+    type Item = Row<'a>;
+
+    ghost next_gives = { YieldsFirstBy row_of (λ rows. lines_of rows.bytes.now) };
+
+    // A line takes a byte at least.
+    ghost remaining = { item_count (λ rows. rows.bytes.now) };
+
+    fn next(&mut self) -> Option<Row<'a>> {
+        if self.bytes.is_empty() {
+            return None;
+        }
+        let (text, after) = split(self.bytes, b'\n');
+        self.bytes = after.unwrap_or(&[]);
+        Some(Row {
+            text,
+            ended: after.is_some(),
+        })
+    }
+}
+
+// An empty line or a comment.
+pub(crate) fn is_skipped(text: &[u8]) -> bool
     ensures { result ≡ skipped text.now }
 {
-    text.is_empty() || text[0] == b'#'
+    text.first().is_none_or(|b| *b == b'#')
 }
 
 // Whether some line is neither empty nor a comment, be it of a form or not.
 pub(crate) fn has_header_line(bytes: &[u8]) -> bool
     ensures { result ≡ has_header (lines_of bytes.now) }
 {
-    let mut rest = bytes;
-    while !rest.is_empty() {
-        let (text, after) = split(rest, b'\n');
-        if !is_skipped(text) {
-            return true;
-        }
-        let Some(after) = after else {
-            return false;
-        };
-        rest = after;
-    }
-    false
-}
-
-// The first line of `bytes` that is not skipped, where the first of all has the number `first`.
-pub(crate) fn next_entry(bytes: &[u8], first: usize) -> Option<Entry<'_>>
-    ensures { NextEntry bytes.now first result }
-{
-    let mut rest = bytes;
-    let mut number = first;
-    while !rest.is_empty() {
-        let (text, after) = split(rest, b'\n');
-        let Some(after) = after else {
-            return Some(Entry {
-                number,
-                text: Err(Refusal::NotOfAForm),
-                rest: &rest[0..0],
-            });
-        };
-        if !is_ascii(text) {
-            return Some(Entry {
-                number,
-                text: Err(Refusal::NotOfAForm),
-                rest: after,
-            });
-        }
-        if !is_skipped(text) {
-            return Some(Entry {
-                number,
-                text: Ok(text),
-                rest: after,
-            });
-        }
-        rest = after;
-        number = number.saturating_add(1);
-    }
-    None
+    Rows { bytes }.any(|row| !is_skipped(row.text))
 }
