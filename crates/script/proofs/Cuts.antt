@@ -1,5 +1,5 @@
 -- The lines of a script, one by one.
-use Rattle.std.proofs.Common.{◌≡◌, ℕ, zero, suc, ◌<◌, Bool, true, false, cond, not, ◌||◌, eqb, is_some, ltb, List, [], ◌∷◌, length, Some, None, Ok, Err, IsAscii, MatchBool, Option, sym, refl, ap, ◌∙◌, ⊎_elim, arith}
+use Rattle.std.proofs.Common.{◌≡◌, ℕ, zero, suc, ◌<◌, Bool, true, false, cond, not, ◌||◌, eqb, is_some, ltb, List, [], ◌∷◌, length, Some, None, IsAscii, MatchBool, Option, sym, refl, ap, ◌∙◌, ⊎_elim, arith}
 use Rattle.script.specs.Opening.{has_header}
 use Rattle.std.proofs.lemmas.Bool.{and_from, and_parts, lt-ltb, ltb-true, cases_Bool}
 use Rattle.std.specs.Str.{IsNotAscii}

@@ -1,5 +1,5 @@
 -- A point from its text.
-use Rattle.std.proofs.Common.{◌≡◌, ℕ, Bool, true, false, ◌&&◌, List, ℤ, pos, negsuc, Some, None, Ok, Err, Option, Result, refl, sym, ap, ◌∙◌, arith}
+use Rattle.std.proofs.Common.{◌≡◌, ℕ, Bool, true, false, ◌&&◌, List, ℤ, pos, negsuc, Some, None, Ok, Err, Option, Result, refl, ap, ◌∙◌, arith}
 use Rattle.std.proofs.lemmas.Int.{ints}
 use Rattle.std.proofs.lemmas.Bool.{and_parts, and_from, lt-ltb}
 use Rattle.items.specs.Coordinates.{Coordinate}
@@ -68,4 +68,3 @@ all_three x y z u v w ex ey ez =
     let dy : y ≡ Some v = grind arith in
     let dz : z ≡ Some w = grind arith in
     rw (dx, dy, dz)
-

@@ -3,5 +3,4 @@ ghost use Rattle.script.specs.Examples.{Examples};
 
 pub fn examples_hold()
     ensures { Examples }
-{
-}
+{}

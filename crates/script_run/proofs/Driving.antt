@@ -9,8 +9,8 @@ use Rattle.stepping.specs.declared.Event.{Event}
 use Rattle.stepping.specs.declared.running.Running.{Running}
 use Rattle.script.specs.Faults.{at_line}
 use Rattle.script.specs.declared.fault.Fault.{Fault}
-use Rattle.script_run.specs.Calls.{Asked, refusal_in, After, Plays}
-use Rattle.script_run.specs.Drives.{Then, Drives}
+use Rattle.script_run.specs.Calls.{Asked, refused_as, refusal_in, After, Plays}
+use Rattle.script_run.specs.Drives.{told_at, Then, Drives}
 
 granted_not_fault : {A : Type 0} (f : Fault) → ◌≡◌ {A = Result (Unit {0}) Fault} (Ok tt) (Err f) → A
 granted_not_fault f e = let z : ◌≡◌ {A = ℕ} 0 1 = cc in absurd (omega arith)
@@ -23,6 +23,11 @@ module _ {C K T : Type 0} (c : Container C) (k : Kind K T) where
   stop : {P Q : Type 0} (line : ℕ) (o : Option Refusal) (u b' : Running C K T) (r : Result (Unit {0}) Fault) → (P → Q) → Then c k line o P u r b' → Then c k line o Q u r b'
   stop line None u b' r f p = f p
   stop line (Some why) u b' r f p = p
+
+  -- a call that was refused is the last
+  pub told_stop : (P : Type 0) (line : ℕ) (given : Result (Unit {0}) Refusal) (u : Running C K T) (f : Fault) → told_at line given ≡ Err f → Then c k line (refused_as given) P u (Err f) u
+  told_stop P line (Ok t) u f e = granted_not_fault f e
+  told_stop P line (Err why) u f e = (refl, sym e)
 
   -- calls all granted, and then others
   pub drives_then : (b v b' : Running C K T) (xs ys : List (Asked T)) (r : Result (Unit {0}) Fault) → Drives c k b xs (Ok tt) v → Drives c k v ys r b' → Drives c k b (xs ++ ys) r b'

@@ -1,5 +1,5 @@
 -- A bench just made that was asked for the calls of a script, and was then closed, ran as it should.
-use Rattle.std.proofs.Common.{◌≡◌, ℕ, List, [], Result, subst}
+use Rattle.std.proofs.Common.{◌≡◌, ℕ, List, [], Ok, Err, Result, refl, ap, subst}
 use Rattle.items.specs.declared.Kind.{Ghosts as Kind}
 use Rattle.vector.specs.Meaning.{unset}
 use Rattle.vector.specs.declared.container.Container.{Ghosts as Container}
@@ -7,11 +7,13 @@ use Rattle.stepping.specs.Log.{recorded}
 use Rattle.stepping.specs.History.{Leads, Led, Ran, Closes}
 use Rattle.stepping.specs.declared.Record.{Record}
 use Rattle.stepping.specs.declared.running.Running.{Running}
+use Rattle.refusal.specs.declared.Refusal.{Refusal}
+use Rattle.script.specs.Faults.{at_line}
 use Rattle.script.specs.declared.fault.Fault.{Fault}
-use Rattle.listing.specs.Listings.{listing}
+use Rattle.listing.specs.Listings.{listing, Listed}
 use Rattle.script_run.specs.Calls.{Asked}
-use Rattle.script_run.specs.Drives.{Drives}
-use Rattle.script_run.specs.Outcomes.{Tells, RunOf}
+use Rattle.script_run.specs.Drives.{told_at, Drives}
+use Rattle.script_run.specs.Outcomes.{Writes, Tells, RunOf}
 use Rattle.script_run.proofs.Driving.{drives_plays}
 
 pub ran_so : {C K T : Type 0} (c : Container C) (k : Kind K T) (text : T → List ℕ) (words : List ℕ) (calls : List (Asked T)) (start x : C) (b b' : Running C K T)
@@ -35,3 +37,8 @@ ran_so {C} {K} {T} c k text words calls start x b b' log v out r out' new over b
       ran = subst (λ (l : List (Record T)). Ran c k start es l x) written ran;
       tells = subst (λ (l : List (Record T)). Tells v (listing text l) out r out') written tells;
     }
+
+-- a listing too long is a fault of no line
+pub writes_so : (text out out' : List ℕ) (given : Result ℕ Refusal) → Listed text out out' given → Writes text out (told_at 0 given) out'
+writes_so text out out' (Ok n) wrote = wrote
+writes_so text out out' (Err why) wrote = ((wrote.0, wrote.1, refl), ap (at_line 0) wrote.2)

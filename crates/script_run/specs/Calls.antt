@@ -7,10 +7,12 @@ use Rattle.stepping.specs.declared.Call.TheVariants.{SetUp, Begin as BeginCall, 
 use Rattle.stepping.specs.declared.Event.{Event}
 use Rattle.stepping.specs.declared.Event.TheVariants.{SetUp as SetUpEvent, Begin as BeginEvent, Step as StepEvent, Look as LookEvent}
 use Rattle.script.specs.Faults.{at_line}
+use Rattle.script.specs.Reading.{left}
 use Rattle.script.specs.declared.fault.Fault.{Fault}
 use Rattle.script.specs.declared.commands.Command.{Command}
 use Rattle.script.specs.declared.commands.Command.TheVariants.{Begin, Steps}
 use Rattle.script.specs.declared.headers.Header.{Header}
+use Rattle.script.specs.declared.opening.Script.{Script}
 
 -- what a line asks for: a call, with the line's number; or, of a line at fault, why it is refused
 abbrev pub Asked : Type 0 → Type 0
@@ -35,6 +37,10 @@ module _ {T : Type 0} where
   -- the header asks for the set-up, and the lines after it for the rest
   abbrev pub script_asks : ℕ → Header → List (ℕ × Result (Command T) Refusal) → List (Asked T)
   script_asks line header lines = (line, Ok (SetUp header.capacity header.threads)) ∷ asked_by lines
+
+  -- what an opened script asks for
+  abbrev pub calls_of : (List ℕ → Result T Refusal) → Script → List (Asked T)
+  calls_of reads script = script_asks script.line script.header (left reads script.lines)
 
   abbrev pub refusal_in : Event T → Option Refusal
   refusal_in (SetUpEvent c n r) = refused_as r

@@ -10,6 +10,11 @@ use Rattle.script.specs.Faults.{at_line}
 use Rattle.script.specs.declared.fault.Fault.{Fault}
 use Rattle.script_run.specs.Calls.{Asked, refusal_in}
 
+-- what was answered, where a refusal is the fault of this line
+abbrev pub told_at : {X : Type 0} → ℕ → Result X Refusal → Result X Fault
+told_at line (Ok x) = Ok x
+told_at line (Err why) = Err (at_line line why)
+
 module _ {C K T : Type 0} (c : Container C) (k : Kind K T) where
   abbrev pub Then : ℕ → Option Refusal → Type 0 → Running C K T → Result (Unit {0}) Fault → Running C K T → Type 0
   Then line None Rest u r b' = Rest

@@ -1,7 +1,8 @@
 // The header's letters choose the kind of item, the memory and the container; then the script is played on a bench of that make.
-ghost use Rattle.std.specs.Prelude.{◌≡◌};
-ghost use Rattle.script.specs.Reading.{left};
-ghost use Rattle.script_run.specs.Calls.{script_asks};
+ghost use Rattle.std.specs.Prelude.{◌≡◌, []};
+ghost use Rattle.vector.specs.Meaning.{unset};
+ghost use Rattle.stepping.specs.History.{Led};
+ghost use Rattle.script_run.specs.Calls.{calls_of};
 ghost use Rattle.script_run.specs.Outcomes.{RunOf, Done, LacksOnly};
 ghost use Rattle.script_run.specs.Scripts.{ByContainer, ByMemory, ScriptRun, AsksForBench};
 
@@ -14,29 +15,33 @@ use memory::{BucketedMemory, FlatMemory, Memory};
 use script::{ContainerChoice, Fault, KindChoice, MemoryChoice, ReadItem, Script, open};
 use std::alloc::{AllocError, Global};
 use stepping::Running;
-use vector::Over;
+use vector::{Container, Over};
 
-// The container is made over the memory, and the bench over the container; the script is played on it, and its log listed.
+// Plays a script on a bench just made, and lists its log.
+fn play<C: Container + Drop, K: Kind<Item = T>, T: ReadItem + WriteItem + Copy>(
+    mut bench: Running<C, K>,
+    script: Script,
+    output: &mut [u8],
+) -> Result<usize, Fault>
+    ensures { (start : C) → (C.Container.shows start).meaning ≡ unset → Led C.Container K.Kind start [] bench → RunOf C.Container K.Kind T.WriteItem.text (C.Container.shows start).words (calls_of T.ReadItem.reads script.entry) output.old result output.new }
+{
+    let verdict = play_script(&mut bench, script);
+    let closed = bench.close();
+    verdict?;
+    list(closed.records(), output).map_err(Fault::whole)
+}
+
+// The container is made over the memory, and the bench over the container.
 fn on_container<M: Memory, C: Over<M> + Drop, K: Kind<Item = T>, T: ReadItem + WriteItem + Copy>(
     heap: Global,
     memory: M,
     script: Script,
     output: &mut [u8],
 ) -> Result<Result<usize, Fault>, AllocError>
-    ensures { Done result (λ o. RunOf C.Container K.Kind T.WriteItem.text (M.words memory) (script_asks script.entry.line script.entry.header (left T.ReadItem.reads script.entry.lines)) output.old o output.new) (output.new ≡ output.old) }
+    ensures { Done result (λ o. RunOf C.Container K.Kind T.WriteItem.text (M.words memory) (calls_of T.ReadItem.reads script.entry) output.old o output.new) (output.new ≡ output.old) }
 {
-    let Ok(mut bench) = Running::<C, K>::new(heap, C::over(memory)) else {
-        return Err(AllocError);
-    };
-    let verdict = play_script(&mut bench, script);
-    let closed = bench.close();
-    if let Err(fault) = verdict {
-        return Ok(Err(fault));
-    }
-    match list(closed.records(), output) {
-        Ok(length) => Ok(Ok(length)),
-        Err(refusal) => Ok(Err(Fault { line: 0, refusal })),
-    }
+    let bench = Running::<C, K>::new(heap, C::over(memory))?;
+    Ok(play(bench, script, output))
 }
 
 // On the container that the header names.
@@ -46,7 +51,7 @@ fn on_memory<M: Memory + Drop, K: Kind<Item = T>, T: ReadItem + WriteItem + Copy
     script: Script,
     output: &mut [u8],
 ) -> Result<Result<usize, Fault>, AllocError>
-    ensures { Done result (λ o. ByContainer M.words (M.words memory) K.Kind T.WriteItem.text (script_asks script.entry.line script.entry.header (left T.ReadItem.reads script.entry.lines)) output.old o output.new script.entry.header.container) (output.new ≡ output.old) }
+    ensures { Done result (λ o. ByContainer M.words (M.words memory) K.Kind T.WriteItem.text (calls_of T.ReadItem.reads script.entry) output.old o output.new script.entry.header.container) (output.new ≡ output.old) }
 {
     match script.header.container {
         ContainerChoice::Descriptor => {
@@ -64,7 +69,7 @@ fn with_kind<K: Kind<Item = T>, T: ReadItem + WriteItem + Copy>(
     script: Script,
     output: &mut [u8],
 ) -> Result<Result<usize, Fault>, AllocError>
-    ensures { Done result (λ o. ByMemory K.Kind T.WriteItem.text (script_asks script.entry.line script.entry.header (left T.ReadItem.reads script.entry.lines)) script.entry.header.container output.old o output.new script.entry.header.memory) (output.new ≡ output.old) }
+    ensures { Done result (λ o. ByMemory K.Kind T.WriteItem.text (calls_of T.ReadItem.reads script.entry) script.entry.header.container output.old o output.new script.entry.header.memory) (output.new ≡ output.old) }
 {
     match script.header.memory {
         MemoryChoice::Flat => on_memory::<FlatMemory, K, T>(

@@ -1,78 +1,48 @@
 // A bench is asked for the calls of a script's lines, in order, up to the first fault.
-ghost use Rattle.std.specs.Prelude.{[], ◌∷◌, replicate, Ok};
-ghost use Rattle.stepping.specs.declared.Call.TheVariants.{Begin as BeginCall, Step as StepCall};
+ghost use Rattle.std.specs.Prelude.{ℕ};
 ghost use Rattle.script.specs.Reading.{left};
-ghost use Rattle.script_run.specs.Calls.{asked, asked_by, script_asks};
-ghost use Rattle.script_run.specs.Drives.{Drives};
+ghost use Rattle.script_run.specs.Calls.{asked, asked_by, calls_of};
+ghost use Rattle.script_run.specs.Drives.{Drives, told_at};
 
 use items::Kind;
+use refusal::Refusal;
 use script::{Command, Fault, Line, Lines, ReadItem, Script};
 use stepping::Running;
-use vector::{Container, Op};
+use vector::Container;
 
-fn begin<C: Container, K: Kind>(
+// What a line asks for, unless the line is refused itself.
+fn perform<C: Container, K: Kind>(
     bench: &mut Running<C, K>,
-    line: usize,
-    thread: usize,
-    op: Op<K::Item>,
-) -> Result<(), Fault>
-    ensures { Drives C.Container K.Kind bench.old ((line, Ok (BeginCall thread op)) ∷ []) result bench.new }
+    command: Result<Command<K::Item>, Refusal>,
+) -> Result<(), Refusal>
+    ensures { (line : ℕ) → Drives C.Container K.Kind bench.old (asked line command) (told_at line result) bench.new }
 {
-    match bench.begin(thread, op) {
-        Ok(_number) => Ok(()),
-        Err(refusal) => Err(Fault { line, refusal }),
-    }
-}
-
-fn steps<C: Container, K: Kind>(
-    bench: &mut Running<C, K>,
-    line: usize,
-    thread: usize,
-    count: usize,
-) -> Result<(), Fault>
-    ensures { Drives C.Container K.Kind bench.old (replicate count (line, Ok (StepCall thread))) result bench.new }
-{
-    for _ in 0..count {
-        match bench.step(thread) {
-            Ok(_done) => {}
-            Err(refusal) => return Err(Fault { line, refusal }),
+    match command? {
+        Command::Begin(thread, op) => {
+            bench.begin(thread, op)?;
+        }
+        Command::Steps(thread, count) => {
+            for _ in 0..count {
+                bench.step(thread)?;
+            }
         }
     }
     Ok(())
 }
 
-// What a line asks for.
-fn perform<C: Container, K: Kind>(
-    bench: &mut Running<C, K>,
-    line: usize,
-    command: Command<K::Item>,
-) -> Result<(), Fault>
-    ensures { Drives C.Container K.Kind bench.old (asked line (Ok command)) result bench.new }
-{
-    match command {
-        Command::Begin(thread, op) => begin(bench, line, thread, op),
-        Command::Steps(thread, count) => steps(bench, line, thread, count),
-    }
-}
-
 // What the lines ask for, in order, up to the first fault.
-pub(crate) fn play_lines<C: Container, K: Kind<Item = T>, T: ReadItem + Copy>(
+fn play_lines<C: Container, K: Kind<Item = T>, T: ReadItem + Copy>(
     bench: &mut Running<C, K>,
     lines: &mut Lines,
 ) -> Result<(), Fault>
     ensures { Drives C.Container K.Kind bench.old (asked_by (left T.ReadItem.reads lines.old)) result bench.new }
 {
-    while let Some(line) = lines.next_line::<T>() {
-        let Line { number, command } = line;
-        match command {
-            Ok(command) => perform(bench, number, command)?,
-            Err(refusal) => {
-                return Err(Fault {
-                    line: number,
-                    refusal,
-                });
-            }
-        }
+    while let Some(read) = lines.next_line::<T>() {
+        let Line {
+            number: line,
+            command,
+        } = read;
+        perform(bench, command).map_err(|refusal| Fault { line, refusal })?;
     }
     Ok(())
 }
@@ -82,15 +52,15 @@ pub(crate) fn play_script<C: Container, K: Kind<Item = T>, T: ReadItem + Copy>(
     bench: &mut Running<C, K>,
     script: Script,
 ) -> Result<(), Fault>
-    ensures { Drives C.Container K.Kind bench.old (script_asks script.entry.line script.entry.header (left T.ReadItem.reads script.entry.lines)) result bench.new }
+    ensures { Drives C.Container K.Kind bench.old (calls_of T.ReadItem.reads script.entry) result bench.new }
 {
     let Script {
         line,
         header,
         mut lines,
     } = script;
-    match bench.set_up(header.capacity, header.threads) {
-        Ok(()) => play_lines(bench, &mut lines),
-        Err(refusal) => Err(Fault { line, refusal }),
-    }
+    bench
+        .set_up(header.capacity, header.threads)
+        .map_err(|refusal| Fault { line, refusal })?;
+    play_lines(bench, &mut lines)
 }

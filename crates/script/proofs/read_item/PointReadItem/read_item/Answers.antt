@@ -1,6 +1,6 @@
 use Rattle.std.proofs.Common.{◌≡◌, to_z, of_z, w64, rules}
 use Rattle.std.proofs.lemmas.Result.{err_from_is_err_and}
-use Rattle.script.specs.Items.{point_item, three, coordinate_of}
+use Rattle.script.specs.Items.{coordinate_of}
 use Rattle.script.proofs.Points.{point_from, point_parts, no_x, no_y, no_z, all_three}
 use Rattle.script.proofs.read_item.PointReadItem.read_item.Goals as goal
 

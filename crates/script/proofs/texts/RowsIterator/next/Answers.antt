@@ -1,4 +1,4 @@
-use Rattle.std.proofs.Common.{◌≡◌, ◌<◌, length, refl, sym, arith, rules}
+use Rattle.std.proofs.Common.{◌<◌, length, refl, sym, arith, rules}
 use Rattle.std.proofs.lemmas.Bool.{eqb-false}
 use Rattle.script.proofs.Cuts.{row_first, row_shorter}
 use Rattle.script.proofs.texts.RowsIterator.next.Goals as goal
