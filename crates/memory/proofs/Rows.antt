@@ -9,7 +9,7 @@ use Rattle.memory.specs.declared.bucket.Bucket.{Bucket}
 use Rattle.memory.specs.Buckets.{six, start, size_of, bucket_of, Placed, all_shut, ShutAreZero}
 use Rattle.memory.specs.Shown.{shown, joined, sizes, is_open, opened}
 use Rattle.memory.specs.Within.{SwapsWithin}
-use Rattle.memory.specs.Words.{Swaps}
+use Rattle.memory.specs.Words.{Loads, Swaps}
 
 -- the sum of the first k of the numbers
 abbrev before : List ℕ → ℕ → ℕ
@@ -68,7 +68,7 @@ module _ (bs : List Bucket) (sized : sizes bs ≡ six) where
 
   module _ (at b off : ℕ) (p : Placed at b off) where
     -- a location lies in the row exactly where its bucket is one of the six
-    pub inside : b < 6 → at < length (joined bs)
+    inside : b < 6 → at < length (joined bs)
     inside h =
         let start_fits = six_starts b h in
         let last : 2 ^ b ≤ 2 ^ 5 = pow_mono (le_of_suc-le-suc h) in
@@ -83,8 +83,12 @@ module _ (bs : List Bucket) (sized : sizes bs ≡ six) where
       size_there : (get_or bs b d).size ≡ size_of b
       size_there = grind (arith, common_steps, long, six_starts b h)
 
-      pub get_there : get_or (joined bs) at 0 ≡ get_or (shown (get_or bs b d)) off 0
+      get_there : get_or (joined bs) at 0 ≡ get_or (shown (get_or bs b d)) off 0
       get_there = grind (arith, common_steps, joined_get bs b off d, size_there, long, six_starts b h)
+
+      -- the bucket's word is the row's
+      pub loads_there : (word : ℕ) → d ≡ get_or bs b d → word ≡ get_or (shown d) off 0 → Loads (joined bs) at (Ok word)
+      loads_there word e w = (inside h, grind (arith, get_there, ap shown e, w))
 
       set_there : (v : ℕ) (n : Bucket) → shown n ≡ set (shown (get_or bs b d)) off v → joined (set bs b n) ≡ set (joined bs) at v
       set_there v n e = grind (arith, common_steps, joined_set bs b off v d n, size_there, long, six_starts b h)
