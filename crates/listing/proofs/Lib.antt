@@ -1,4 +1,1 @@
-pub mod Putting
-pub mod Lengths
 pub mod Joining
-pub mod Casts

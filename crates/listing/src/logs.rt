@@ -1,24 +1,22 @@
 // The listing of a log.
-ghost use Rattle.std.specs.Prelude.{◌≡◌, length, nat_le};
+ghost use Rattle.std.specs.Prelude.{◌≡◌, ◌+◌, ◌<◌, length, MatchOption};
 ghost use Rattle.listing.specs.Listings.{listing, Listed};
 
-use crate::records::{line_len, put_line};
+use crate::records::line_of_record;
 use crate::write_item::WriteItem;
 use refusal::Refusal;
 use stepping::Record;
 
-fn fits<T: WriteItem>(log: &[Record<T>], size: usize) -> bool
-    ensures { result ≡ nat_le (length (listing T.WriteItem.text log.now)) size }
+// How much of this room a listing leaves, if it fits. Its lines are made here and once more to be written, since a log has
+// more of them than can be kept.
+fn room_left<T: WriteItem>(log: &[Record<T>], room: usize) -> Option<usize>
+    ensures { let n = length (listing T.WriteItem.text log.now) in MatchOption result (room < n) (λ left. n + left ≡ room) }
 {
-    let mut room = size;
+    let mut left = room;
     for entry in log {
-        let line = line_len(entry);
-        if line > room {
-            return false;
-        }
-        room -= line;
+        left = left.checked_sub(line_of_record(entry).len())?;
     }
-    true
+    Some(left)
 }
 
 // Writes the listing of a log at the beginning of the output, and answers its length. A listing that is too long is
@@ -26,12 +24,13 @@ fn fits<T: WriteItem>(log: &[Record<T>], size: usize) -> bool
 pub fn list<T: WriteItem>(log: &[Record<T>], output: &mut [u8]) -> Result<usize, Refusal>
     ensures { Listed (listing T.WriteItem.text log.now) output.old output.new result }
 {
-    if !fits(log, output.len()) {
-        return Err(Refusal::ListingTooLong);
-    }
+    room_left(log, output.len()).ok_or(Refusal::ListingTooLong)?;
     let mut at = 0;
     for entry in log {
-        at = put_line(entry, output, at);
+        let line = line_of_record(entry);
+        let end = at + line.len();
+        output[at..end].copy_from_slice(&line);
+        at = end;
     }
     Ok(at)
 }
