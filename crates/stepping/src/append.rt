@@ -12,10 +12,10 @@ pub(crate) fn append<T: Copy>(log: &mut Vec<Record<T>>, more: Option<Record<T>>)
     ensures items { log.new.items ≡ take (vec_capacity log.old) (log.old.items ++ option_to_list more) }
     ensures capacity { vec_capacity log.new ≡ vec_capacity log.old }
 {
-    if let Some(last) = more {
-        if log.len() < log.capacity() {
-            log.push_reserved(last);
-        }
+    if let Some(last) = more
+        && log.len() < log.capacity()
+    {
+        log.push_reserved(last);
     }
 }
 

@@ -72,7 +72,7 @@ impl<C: Container, K: Kind> Running<C, K> {
         ensures does { Looks self.now.threads self.now.log.items thread result }
         ensures history { GoesOn C.Container K.Kind self.now (Event.Look thread result) self.now }
     {
-        if thread < 1 || thread > self.threads {
+        if !(1..=self.threads).contains(&thread) {
             return Err(Refusal::NoThread);
         }
         Ok(open_of(self.log.as_slice(), thread))
