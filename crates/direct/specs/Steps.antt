@@ -12,7 +12,7 @@ use Rattle.vector.specs.Threads.{idle_threads, task_of, with_row, begun_by, rows
 use Rattle.vector.specs.declared.Op.{Op}
 use Rattle.vector.specs.declared.threads.Threads.{Threads}
 use Rattle.vector.proofs.Rows.{row_set_same}
-use Rattle.vector.proofs.Tasks.{set_up_granted, begin_granted, step_granted, all_idle, count, means, rows_after, begin_same, step_same, left_after, left_some}
+use Rattle.vector.proofs.Tasks.{same_meaning, set_up_granted, begin_granted, step_granted, all_idle, count, means, rows_after, begin_same, step_same, left_after, left_some}
 use Rattle.direct.specs.Shows.{Own, row, shown, whole}
 use Rattle.direct.specs.Fields.{held}
 use Rattle.direct.specs.declared.Direct.{Direct}
@@ -27,10 +27,6 @@ one_if o = cond (is_some o) 1 0
 
 some_one : (o : Option Own) → is_some o ≡ true → 0 < one_if o
 some_one o e = rw e (omega arith)
-
-same_parts : (c c' g g' : ℕ) (xs xs' : List ℕ) (rows rows' : List Row) → c ≡ c' → xs ≡ xs' → rows ≡ rows' → g ≡ g'
-    → ◌≡◌ {A = Meaning} (record { capacity = c; items = xs; rows = rows; given = g }) (record { capacity = c'; items = xs'; rows = rows'; given = g' })
-same_parts c c' g g' xs xs' rows rows' p q r s = cc
 
 module _ (T : Threads (Unit {0})) (xs : List ℕ) (few : T.count ≤ 8) (eight : length T.rows ≡ 8) where
   abbrev m : Meaning
@@ -49,7 +45,7 @@ module _ (T : Threads (Unit {0})) (xs : List ℕ) (few : T.count ≤ 8) (eight :
   sets_up k n (Ok x) T' bare h =
       let g = set_up_granted T.capacity k n 0 0 true h.0 in
       let rows = ap (map row) (take-replicate n 8 None g.4) ∙ all_idle row refl n in
-      rw h.1 (h.0, (same_parts _ _ _ _ _ _ _ _ refl (bare g.0) rows refl, refl))
+      rw h.1 (h.0, (same_meaning refl (bare g.0) rows refl, refl))
 
   pub begins : (t : ℕ) (op : Op ℕ) (n : ℕ) → first_row (begin_rows T.count t (is_some (task_of T.rows t)) 400 T.given T.capacity op) ≡ None
       → n ≡ suc T.given → Begins (shown T xs) t op (Ok n) (shown (begun_by T t (record { number = n; op = op; stage = tt })) xs)
@@ -59,7 +55,7 @@ module _ (T : Threads (Unit {0})) (xs : List ℕ) (few : T.count ≤ 8) (eight :
         sym (begin_same row refl T.count T.rows long open_row t 400 T.given T.capacity op) ∙ e,
         (
           next,
-          same_parts _ _ _ _ _ _ _ _ refl refl
+          same_meaning refl refl
               (rows_after row refl T.count T.rows long t (Some w) g.0 g.1 ∙ ap (λ i. slice_set m.rows (t - 1) (waiting op i)) next)
               next,
           refl,
@@ -83,7 +79,7 @@ module _ (T : Threads (Unit {0})) (xs : List ℕ) (few : T.count ≤ 8) (eight :
             (
               w.op,
               row_set_same m.rows t now low (omega arith),
-              same_parts _ _ _ _ _ _ _ _ refl refl
+              same_meaning refl refl
                   (rows_after row refl T.count T.rows long t None low high ∙ sym (set-set m.rows (t - 1) now idle))
                   refl,
             ),
@@ -95,7 +91,7 @@ module _ (T : Threads (Unit {0})) (xs : List ℕ) (few : T.count ≤ 8) (eight :
 
 pub lawful : (d : Direct) → Lawful (shown d.threads (held d))
 lawful d = record {
-  before = λ z. let b = d.bare z in same_parts _ _ _ _ _ _ _ _ z b.1 (ap (λ n. map row (take n d.threads.rows)) b.0) b.2;
+  before = λ z. let b = d.bare z in same_meaning z b.1 (ap (λ n. map row (take n d.threads.rows)) b.0) b.2;
   left_alone = λ t alone. (left_some row refl open_row one_if some_one d.threads.count d.threads.rows (long d.threads (held d) d.few d.eight) t alone.0, few_left d.threads (held d) d.few d.eight);
   some_numbers = omega arith;
   few_numbers = omega arith;

@@ -14,12 +14,12 @@ use Rattle.vector.specs.Plain.{Small}
 use Rattle.vector.specs.Calls.{all_zero, begin_refused, step_refused, SetsUp, Begins, Steps, begun, set_up}
 use Rattle.vector.specs.Threads.{idle_threads, task_of, with_row, rows_of}
 use Rattle.vector.proofs.Preparing.{zeros_at, from_outside}
-use Rattle.vector.proofs.Tasks.{set_up_granted, begin_granted, step_granted, all_idle, count, rows_after, begin_same, step_same, none_open, task_set_other, at_tasks, left_some}
+use Rattle.vector.proofs.Tasks.{same_meaning, set_up_granted, begin_granted, step_granted, all_idle, count, rows_after, begin_same, step_same, none_open, task_set_other, at_tasks, left_some}
 use Rattle.lock_vector.specs.declared.stages.Stage.{Stage}
 use Rattle.lock_vector.specs.Calls.{needed, first_stage, admitted, admit_rows, advance_rows, Prepares, Admits, Advances, moved_row, stored_row, location, location_of}
 use Rattle.lock_vector.specs.Meaning.{values, items, meant, rank, shown, inside, Inside, Lock, free, held, Known, Running, Sound}
 use Rattle.lock_vector.specs.Places.{open_meant, rank_open, ranks_small}
-use Rattle.lock_vector.specs.Turns.{no_way, mean_eq, Good}
+use Rattle.lock_vector.specs.Turns.{no_way, Good}
 use Rattle.lock_vector.specs.Stepping.{good, located, inside_open}
 
 module _ (T : Threads Stage) (W : List ℕ) (sound : Sound T W) where
@@ -84,7 +84,7 @@ granted_set_up T W k n e =
         known = λ u. subst (Known 0) (sym (none_open 8 u)) tt;
         lock = free lock (λ u. ap inside (none_open 8 u));
       },
-      mean_eq k 0 (items k W) [] _ _ (ap (λ m. take m (values W)) none) (ap (map meant) (take-replicate n 8 None g.4) ∙ all_idle meant refl n),
+      same_meaning refl (ap (λ m. take m (values W)) none) (ap (map meant) (take-replicate n 8 None g.4) ∙ all_idle meant refl n) refl,
     )
 
 pub keeps_set_up : {X : Type 0} (T : Threads Stage) (W : List ℕ) (k n : ℕ) (r : Result X Refusal) (T' : Threads Stage) (W' : List ℕ)

@@ -10,10 +10,10 @@ use Rattle.vector.specs.declared.Stepped.{Stepped}
 use Rattle.vector.specs.declared.threads.Task.{Task}
 use Rattle.vector.specs.declared.threads.Threads.{Threads}
 use Rattle.vector.specs.Plain.{answer, after, Small}
-use Rattle.vector.specs.Meaning.{Row, Meaning, waiting, served, row_of, Alone}
+use Rattle.vector.specs.Meaning.{waiting, served, row_of, Alone}
 use Rattle.vector.specs.Calls.{Moves, taken}
 use Rattle.vector.specs.Threads.{task_of, with_row, rows_of}
-use Rattle.vector.proofs.Tasks.{row_kept, means, rows_after, task_set_same, task_set_other, at_tasks, left_after}
+use Rattle.vector.proofs.Tasks.{same_meaning, row_kept, means, rows_after, task_set_same, task_set_other, at_tasks, left_after}
 use Rattle.lock_vector.specs.declared.stages.Swapping.TheVariants.{K6}
 use Rattle.lock_vector.specs.declared.stages.Stage.{Stage}
 use Rattle.lock_vector.specs.declared.stages.Stage.TheVariants.{Swap}
@@ -46,10 +46,6 @@ Leads T W t m W' = Good T W t m.stepped (with_row T t m.row) W'
 -- no thread but t is inside
 abbrev Others : Threads Stage → ℕ → Type 0
 Others T t = (u : ℕ) → u ≢ t → inside (task_of T.rows u) ≡ false
-
-pub mean_eq : (c g : ℕ) (xs ys : List ℕ) (rows rows' : List Row) → xs ≡ ys → rows ≡ rows'
-    → ◌≡◌ {A = Meaning} (record { capacity = c; items = xs; rows = rows; given = g }) (record { capacity = c; items = ys; rows = rows'; given = g })
-mean_eq c g xs ys rows rows' p q = cc
 
 module _ {T : Threads Stage} {W : List ℕ} {t number : ℕ} {op : Op ℕ} {stage : Stage} (turn : Turn T W t number op stage) where
   abbrev c : ℕ
@@ -115,8 +111,7 @@ module _ {T : Threads Stage} {W : List ℕ} {t number : ℕ} {op : Op ℕ} {stag
         moves = (
           (shown T W).meaning,
           refl,
-          mean_eq c T.given (items c W') (items c W) _ _ e
-              (rows_now row ∙ row_kept (shown T W).meaning.rows t (meant_at next op number) turn.low (row_means ∙ w ∙ sym w')),
+          same_meaning refl e (rows_now row ∙ row_kept (shown T W).meaning.rows t (meant_at next op number) turn.low (row_means ∙ w ∙ sym w')) refl,
         );
         falls = λ _. less row l;
       }
@@ -132,8 +127,7 @@ module _ {T : Threads Stage} {W : List ℕ} {t number : ℕ} {op : Op ℕ} {stag
         moves = (
           taken (shown T W).meaning t op number,
           (t, op, row_means ∙ w, refl),
-          mean_eq c T.given (items c W') (after c (items c W) op) _ _ e
-              (rows_now row ∙ ap (λ b. set (shown T W).meaning.rows (t - 1) (served op number b)) q),
+          same_meaning refl e (rows_now row ∙ ap (λ b. set (shown T W).meaning.rows (t - 1) (served op number b)) q) refl,
         );
         falls = λ _. less row l;
       }
@@ -147,7 +141,7 @@ module _ {T : Threads Stage} {W : List ℕ} {t number : ℕ} {op : Op ℕ} {stag
     moves = (
       (shown T W).meaning,
       refl,
-      (op, row_means ∙ w, mean_eq c T.given (items c W') (items c W) _ _ e (rows_now None)),
+      (op, row_means ∙ w, same_meaning refl e (rows_now None) refl),
     );
     falls = λ _. less None l;
   }

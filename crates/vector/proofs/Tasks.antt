@@ -5,7 +5,7 @@ use Rattle.std.proofs.Math.Seq.{take-set-lt}
 use Rattle.std.proofs.lemmas.Bool.{cases_eq, cases_Bool, not-false, ltb-false}
 use Rattle.std.proofs.lemmas.List.{length-map, length-take-le, get_or-take, get_or-set_same, get_or-set_other, map-set, set-get_or}
 use Rattle.std.proofs.lemmas.List.Sums.{sum_by-set, get_or-le-sum_by}
-use Rattle.vector.specs.Meaning.{Row, idle, row_of, is_open}
+use Rattle.vector.specs.Meaning.{Row, Meaning, idle, row_of, is_open}
 use Rattle.vector.specs.Refusals.{first_row, outside, set_up_rows, begin_rows, step_rows}
 use Rattle.vector.specs.Threads.{task_of}
 use Rattle.vector.specs.declared.Op.{Op}
@@ -23,6 +23,10 @@ pub row_kept : (rows : List Row) (t : ℕ) (row : Row) → 1 ≤ t → row_of ro
 row_kept rows t row low e =
     let h : row ≡ slice_index_or rows (t - 1) idle = sym e ∙ row_of_place rows t low in
     rw h (set-get_or rows (t - 1) idle)
+
+pub same_meaning : {c c' g g' : ℕ} {xs xs' : List ℕ} {rows rows' : List Row} → c ≡ c' → xs ≡ xs' → rows ≡ rows' → g ≡ g'
+    → ◌≡◌ {A = Meaning} (record { capacity = c; items = xs; rows = rows; given = g }) (record { capacity = c'; items = xs'; rows = rows'; given = g' })
+same_meaning p q r s = cc
 
 -- What holds where a call is granted; a table may go on after these rows.
 pub set_up_granted : (set capacity count words needed : ℕ) (zeros : Bool) → first_row (set_up_rows set capacity count words needed zeros) ≡ None
