@@ -1,4 +1,4 @@
 pub mod Parts
-pub mod Steps
+pub mod Signs
 pub mod Points
 pub mod Cuts

@@ -1,4 +1,4 @@
-// Lines after the header, read one by one.
+// The lines of a script that are not skipped, read one by one.
 ghost use Rattle.std.specs.Prelude.{◌≡◌};
 ghost use Rattle.script.specs.Entries.{text_of, NextEntry};
 ghost use Rattle.script.specs.Reading.{command_in, ReadsLine};
@@ -57,6 +57,7 @@ impl<'a> Lines<'a> {
     pub fn next_line<T: ReadItem>(&mut self) -> Option<Line<T>>
         ensures { ReadsLine T.ReadItem.reads self.old result self.new }
     {
+        // Where no line is left, these stay as they were.
         let mut lines = *self;
         let entry = lines.next_text()?;
         *self = lines;

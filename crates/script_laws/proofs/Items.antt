@@ -8,17 +8,13 @@ use Rattle.items.specs.declared.point.Point.{Point}
 use Rattle.script.proofs.Points.{point_from}
 use Rattle.script.specs.Fields.{before, after}
 use Rattle.script.specs.Numbers.{number_of, minus, unsigned, with_sign, signed_of}
+use Rattle.std.proofs.lemmas.Option.{none-some, same_Some}
+use Rattle.script.proofs.Parts.{before_all}
 use Rattle.script.specs.Items.{within, ranged, number_item, rounded, with_tenth, magnitude_of, coordinate_of, all_within, point_if, point_at, three, last_two, from_x, point_item}
 use Rattle.script_laws.specs.Grammar.{WritesNumber, Signed, WritesNumberItem, WritesMagnitude, WritesPoint, Iff}
-use Rattle.script_laws.proofs.Marks.{Lacks, lacks_append, before_mark, after_mark, before_lacks, after_lacks, cut, uncut, first_lacks}
+use Rattle.script_laws.proofs.Marks.{Lacks, lacks_append, before_mark, after_mark, before_lacks, after_lacks, cut, first_lacks}
 use Rattle.script_laws.proofs.Numbers.{number_sound, number_complete, digits_read, digits_lack}
 use Rattle.script_laws.proofs.Decimals.{below}
-
-same : {A : Type 0} (x y : A) → Some x ≡ Some y → x ≡ y
-same x y e = cc
-
-nothing : {A : Type 0} (x : A) → None ≡ Some x → ⊥
-nothing x e = let z : ◌≡◌ {A = ℕ} 0 1 = cc in omega arith
 
 -- a sign before what R reads
 module _ (R : List ℕ → Option ℕ) (Writes : ℕ → List ℕ → Type 0) (sound : (n : ℕ) (text : List ℕ) → R text ≡ Some n → Writes n text) (complete : (n : ℕ) (text : List ℕ) → Writes n text → R text ≡ Some n) (unsigned_first : (n : ℕ) (text : List ℕ) → Writes n text → minus text ≡ false) where
@@ -27,9 +23,9 @@ module _ (R : List ℕ → Option ℕ) (Writes : ℕ → List ℕ → Type 0) (s
   split_minus (x ∷ xs) e = ap (λ y. y ∷ xs) (eqb-true x 45 e)
 
   sign_if : (b : Bool) (z : ℤ) (text : List ℕ) (o : Option ℕ) → minus text ≡ b → R (cond b (drop 1 text) text) ≡ o → option_map (with_sign b) o ≡ Some z → Signed Writes z text
-  sign_if b z text None m r e = absurd (nothing z e)
-  sign_if true z text (Some n) m r e = (n, drop 1 text, sound n (drop 1 text) r, inr (split_minus text m, sym (same _ z e)))
-  sign_if false z text (Some n) m r e = (n, text, sound n text r, inl (refl, sym (same _ z e)))
+  sign_if b z text None m r e = absurd (none-some z e)
+  sign_if true z text (Some n) m r e = (n, drop 1 text, sound n (drop 1 text) r, inr (split_minus text m, sym (same_Some _ z e)))
+  sign_if false z text (Some n) m r e = (n, text, sound n text r, inl (refl, sym (same_Some _ z e)))
 
   pub signed_sound : (z : ℤ) (text : List ℕ) → option_map (with_sign (minus text)) (R (unsigned text)) ≡ Some z → Signed Writes z text
   signed_sound z text e = sign_if (minus text) z text _ refl refl e
@@ -68,13 +64,13 @@ one_digit k tenth w one =
     omega (arith, h, ap (λ n. 10 ^ n) one)
 
 tenth_if : (b : Bool) (n m : ℕ) (tenth : List ℕ) (o : Option ℕ) → eqb (length tenth) 1 ≡ b → number_of tenth ≡ o → option_map (rounded n) (cond b o None) ≡ Some m → (k : ℕ) × WritesNumber k tenth × (length tenth ≡ 1) × (rounded n k ≡ m)
-tenth_if false n m tenth o t h e = absurd (nothing m e)
-tenth_if true n m tenth None t h e = absurd (nothing m e)
-tenth_if true n m tenth (Some k) t h e = (k, number_sound k tenth h, eqb-true _ 1 t, same _ m e)
+tenth_if false n m tenth o t h e = absurd (none-some m e)
+tenth_if true n m tenth None t h e = absurd (none-some m e)
+tenth_if true n m tenth (Some k) t h e = (k, number_sound k tenth h, eqb-true _ 1 t, same_Some _ m e)
 
 magnitude_if : (m : ℕ) (text : List ℕ) (o : Option ℕ) (r : Option (List ℕ)) → number_of (before 46 text) ≡ o → after 46 text ≡ r → with_tenth o r ≡ Some m → WritesMagnitude m text
-magnitude_if m text None r h k e = absurd (nothing m e)
-magnitude_if m text (Some n) None h k e = inl (number_sound m text (ap number_of (sym (uncut 46 text k)) ∙ h ∙ e))
+magnitude_if m text None r h k e = absurd (none-some m e)
+magnitude_if m text (Some n) None h k e = inl (number_sound m text (ap number_of (sym (before_all 46 text k)) ∙ h ∙ e))
 magnitude_if m text (Some n) (Some tenth) h k e =
     let t = tenth_if _ n m tenth _ refl refl e in
     inr (n, t.0, before 46 text, tenth, cut 46 text tenth k, number_sound n (before 46 text) h, t.1, t.2, sym t.3 ∙ rounds n t.0 (one_digit t.0 tenth t.1 t.2))

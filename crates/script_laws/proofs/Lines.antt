@@ -5,13 +5,14 @@ use Rattle.refusal.specs.declared.Refusal.{Refusal}
 use Rattle.refusal.specs.declared.Refusal.TheVariants.{NotOfAForm, OutOfRange}
 use Rattle.vector.specs.declared.Op.{Op}
 use Rattle.vector.specs.declared.Op.TheVariants.{Push, Pop, Read, Write, Size}
+use Rattle.script.proofs.Parts.{before_all}
 use Rattle.script.specs.Fields.{before, after}
 use Rattle.script.specs.Numbers.{number_of}
 use Rattle.script.specs.Commands.{counted, op_alone, push, read, written, write, begun, stepped, op_with, told, from_word, from_thread, command_of}
 use Rattle.script.specs.declared.commands.Command.{Command}
 use Rattle.script.specs.declared.commands.Command.TheVariants.{Begin, Steps}
 use Rattle.script_laws.specs.Grammar.{WritesNumber, WritesOp, WritesCommand, Iff, ReadsJust}
-use Rattle.script_laws.proofs.Marks.{Lacks, before_mark, after_mark, cut, uncut}
+use Rattle.script_laws.proofs.Marks.{Lacks, before_mark, after_mark, cut}
 use Rattle.script_laws.proofs.Numbers.{number_sound, number_complete, digits_lack}
 
 refused : {A : Type 0} (f : Refusal) (x : A) → Err f ≡ Ok x → ⊥
@@ -100,7 +101,7 @@ module _ {T : Type 0} (reads : List ℕ → Result T Refusal) (WritesItem : T �
     on_dot l args false h = begins (l ∷ 32 ∷ args) (op_with reads l args) (with_args l args)
 
     tells : (rest : List ℕ) (l : ℕ) (r : Option (List ℕ)) → before 32 rest ≡ l ∷ [] → after 32 rest ≡ r → Line (thread ++ 32 ∷ rest) (told reads t l r)
-    tells rest l None w a = subst (λ x. Line (thread ++ 32 ∷ x) (told reads t l None)) (sym w ∙ uncut 32 rest a) (begins (l ∷ []) (op_alone l) (alone l))
+    tells rest l None w a = subst (λ x. Line (thread ++ 32 ∷ x) (told reads t l None)) (sym w ∙ before_all 32 rest a) (begins (l ∷ []) (op_alone l) (alone l))
     tells rest l (Some args) w a =
         let is : l ∷ 32 ∷ args ≡ rest = sym (cut 32 rest args a ∙ ap (λ x. x ++ 32 ∷ args) w) in
         subst (λ x. Line (thread ++ 32 ∷ x) (told reads t l (Some args))) is (on_dot l args (eqb l 46) refl)

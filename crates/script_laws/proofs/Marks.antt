@@ -83,11 +83,3 @@ cut_if false b x xs rest t ih e = ap (λ l. x ∷ l) (ih e)
 pub cut : (b : ℕ) (xs rest : List ℕ) → after b xs ≡ Some rest → xs ≡ before b xs ++ b ∷ rest
 cut b [] rest e = let z : ◌≡◌ {A = ℕ} 0 1 = cc in absurd (omega arith)
 cut b (x ∷ xs) rest e = cut_if (eqb x b) b x xs rest refl (cut b xs rest) e
-
-uncut_if : (t : Bool) (b x : ℕ) (xs : List ℕ) → (after b xs ≡ None → before b xs ≡ xs) → cond t (Some xs) (after b xs) ≡ None → cond t [] (x ∷ before b xs) ≡ x ∷ xs
-uncut_if true b x xs ih e = let z : ◌≡◌ {A = ℕ} 0 1 = cc in absurd (omega arith)
-uncut_if false b x xs ih e = ap (λ l. x ∷ l) (ih e)
-
-pub uncut : (b : ℕ) (xs : List ℕ) → after b xs ≡ None → before b xs ≡ xs
-uncut b [] e = refl
-uncut b (x ∷ xs) e = uncut_if (eqb x b) b x xs (uncut b xs) e

@@ -15,38 +15,32 @@ ghost use Rattle.script_laws.specs.Worked.{WorkedExample};
 pub fn lines_are_read_by_their_forms()
     ensures numbers { ReadsJust number_item WritesNumberItem }
     ensures points { ReadsJust point_item WritesPoint }
-{
-}
+{}
 
 // Numbers are listed in the shortest form that reads back as that number.
 pub fn decimals_are_shortest()
     ensures { ShortestDecimals }
-{
-}
+{}
 
 // A begin line of a listing, from its thread on, is a line of a script that begins the same operation.
 pub fn begin_lines_are_script_lines()
     ensures numbers { ReadsBack signed_decimal number_item Number }
     ensures points { ReadsBack point_text point_item AnyPoint }
-{
-}
+{}
 
 // Two logs with the same listing are the same, if each end answers an operation that its number begins.
 pub fn listing_determines_the_log()
     ensures numbers { ListingDetermines signed_decimal Number }
     ensures points { ListingDetermines point_text AnyPoint }
-{
-}
+{}
 
 // So do the ends in every log of a run.
 pub fn logs_of_runs_are_answered()
     ensures numbers { RunsAreAnswered ℤ }
     ensures points { RunsAreAnswered Point }
-{
-}
+{}
 
 // A script and the listing of a run of it, to the byte.
 pub fn worked_example_stands()
     ensures { WorkedExample }
-{
-}
+{}

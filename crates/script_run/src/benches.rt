@@ -31,7 +31,8 @@ fn play<C: Container + Drop, K: Kind<Item = T>, T: ReadItem + WriteItem + Copy>(
     list(closed.records(), output).map_err(Fault::whole)
 }
 
-// The container is made over the memory, and the bench over the container.
+// The container is made over the memory, and the bench over the container. Heap, script and output stay parameters: each is used
+// at another depth, and a struct of them would be taken apart at once.
 fn on_container<M: Memory, C: Over<M> + Drop, K: Kind<Item = T>, T: ReadItem + WriteItem + Copy>(
     heap: Global,
     memory: M,

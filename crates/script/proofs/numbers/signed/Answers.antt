@@ -1,6 +1,6 @@
 use Rattle.std.proofs.Common.{◌≡◌, Ok, neg_ℤ, pos, to_z, of_z, w64, ◌-ℤ◌, arith, rules}
 use Rattle.std.proofs.lemmas.Int.{ints}
-use Rattle.script.proofs.Steps.{after_minus, without_minus}
+use Rattle.script.proofs.Signs.{after_minus, without_minus}
 use Rattle.script.proofs.numbers.signed.Goals as goal
 
 pub overflow_cast-result : goal.overflow_cast-result
