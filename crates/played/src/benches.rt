@@ -16,7 +16,7 @@ fn show_look(
         Ok(Some(Open { number, effect })) => {
             println!(rt; "  look {thread}: number {number}, took effect: {effect}")?
         }
-        Err(refusal) => println!(rt; "  look {thread}: refused {}", refusal.number())?,
+        Err(refusal) => println!(rt; "  look {thread}: refused {refusal}")?,
     }
     Ok(())
 }

@@ -5,7 +5,7 @@ use memory::{BucketedMemory, FlatMemory, Memory, Swapped, place};
 fn show_load<M: Memory>(rt: &HostRuntime, memory: &M, at: usize) -> anyhow::Result<()> {
     match memory.load(at) {
         Ok(word) => println!(rt; "  load {at}: {word}")?,
-        Err(refusal) => println!(rt; "  load {at}: refused {}", refusal.number())?,
+        Err(refusal) => println!(rt; "  load {at}: refused {refusal}")?,
     }
     Ok(())
 }
@@ -20,10 +20,7 @@ fn show_swap<M: Memory>(
     match memory.swap(at, old, new) {
         Ok(Swapped::Yes) => println!(rt; "  swap {at} from {old} to {new}: yes")?,
         Ok(Swapped::No) => println!(rt; "  swap {at} from {old} to {new}: no")?,
-        Err(refusal) => println!(rt;
-            "  swap {at} from {old} to {new}: refused {}",
-            refusal.number()
-        )?,
+        Err(refusal) => println!(rt; "  swap {at} from {old} to {new}: refused {refusal}")?,
     }
     Ok(())
 }

@@ -29,7 +29,7 @@ fn show_point(rt: &HostRuntime, x: i64, y: i64, z: i64) -> anyhow::Result<()> {
             let back = Shown(Points::to_item(value));
             println!(rt; "  {x},{y},{z}: {value}: {back}")?
         }
-        Err(refusal) => println!(rt; "  {x},{y},{z}: refused {}", refusal.number())?,
+        Err(refusal) => println!(rt; "  {x},{y},{z}: refused {refusal}")?,
     }
     Ok(())
 }

@@ -1,13 +1,11 @@
 -- The kinds, memories and containers that there are, each by what it means.
-use Rattle.std.specs.Prelude.{ℕ, List, ℤ, vec_items}
+use Rattle.std.specs.Prelude.{ℕ, List, ℤ}
 use Rattle.items.specs.Numbers.{number_value, value_number, IsNumber}
 use Rattle.items.specs.Points.{point_value, value_point}
 use Rattle.items.specs.declared.Kind.{Ghosts as Kind}
 use Rattle.items.specs.declared.numbers.Numbers.{Numbers}
 use Rattle.items.specs.declared.point.Point.{Point}
 use Rattle.items.specs.declared.points.Points.{Points}
-use Rattle.memory.specs.Shown.{joined}
-use Rattle.memory.specs.declared.bucketed.BucketedMemory.{BucketedMemory}
 use Rattle.vector.specs.declared.container.Container.{Ghosts as Container}
 use Rattle.lock_vector.specs.Calls as lock_calls
 use Rattle.lock_vector.specs.Meaning as lock_meaning
@@ -21,9 +19,6 @@ numbers = record { value = number_value; item = value_number; proper = IsNumber 
 
 abbrev pub points : Kind Points Point
 points = record { value = point_value; item = value_point; proper = λ _. Unit {0} }
-
-abbrev pub bucketed_words : BucketedMemory → List ℕ
-bucketed_words m = joined (vec_items m.buckets)
 
 -- the vector under a lock over a memory
 abbrev pub lock_vector : {M : Type 0} (words : M → List ℕ) → Container (LockVector M (record { words = words }))

@@ -27,9 +27,8 @@ impl fmt::Display for Fault {
     ghost output = { fault_text };
 
     fn fmt<W: fmt::Write>(&self, f: &mut fmt::Formatter<W>) -> fmt::Result {
-        let line = self.line;
-        let number = self.refusal.number();
-        write!(f, "fault {line} {number}")
+        let Fault { line, refusal } = self;
+        write!(f, "fault {line} {refusal}")
     }
 }
 

@@ -18,7 +18,8 @@ use Rattle.script.specs.declared.headers.KindChoice.{KindChoice}
 use Rattle.script.specs.declared.headers.KindChoice.TheVariants.{Numbers, Points}
 use Rattle.listing.specs.Texts.{point_text}
 use Rattle.script_run.specs.Calls.{Asked, script_asks}
-use Rattle.runs.specs.Makes.{numbers, points, bucketed_words, lock_vector, descriptor_vector}
+use Rattle.memory.specs.Bucketed.{bucketed_words}
+use Rattle.runs.specs.Makes.{numbers, points, lock_vector, descriptor_vector}
 use Rattle.script_run.specs.Outcomes.{RunOf}
 
 -- the container, over a memory M, whose words at first are these

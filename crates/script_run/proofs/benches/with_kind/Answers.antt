@@ -1,7 +1,7 @@
 -- The memory that was made has the words that the definition names.
 use Rattle.std.proofs.Common.{◌≡◌, ℕ, List, subst}
 use Rattle.script_run.specs.Calls.{calls_of}
-use Rattle.runs.specs.Makes.{bucketed_words}
+use Rattle.memory.specs.Bucketed.{bucketed_words}
 use Rattle.script_run.specs.Outcomes.{Done}
 use Rattle.script_run.specs.Scripts.{ByContainer}
 use Rattle.script_run.proofs.benches.with_kind.Goals as goal
