@@ -8,10 +8,6 @@ use Rattle.vector.specs.declared.Op.{Op}
 use Rattle.vector.specs.declared.Ended.{Ended}
 use Rattle.vector.specs.declared.Stepped.{Stepped}
 
--- what holds together before a call does so after it, and the call does what it should
-abbrev pub Keeps : {C : Type 0} → (C → Type 0) → C → C → Type 0 → Type 0
-Keeps sound entry exit Does = sound entry → sound exit × Does
-
 -- The refusals, over what a container shows.
 abbrev pub all_zero : List ℕ → Bool
 all_zero [] = true

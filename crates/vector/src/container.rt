@@ -4,19 +4,16 @@ ghost use Rattle.refusal.specs.declared.Refusal.{Refusal};
 ghost use Rattle.vector.specs.declared.Op.{Op};
 ghost use Rattle.vector.specs.declared.Stepped.{Stepped};
 ghost use Rattle.vector.specs.Meaning.{Shown, unset, Lawful};
-ghost use Rattle.vector.specs.Calls.{SetsUp, Begins, Steps, Keeps};
+ghost use Rattle.vector.specs.Calls.{SetsUp, Begins, Steps};
 
 use crate::{Op, Stepped};
 use memory::Memory;
 use refusal::Refusal;
 
-// `sound` says that a container holds together: every call keeps it so, and does what the clause `means` says while it is.
-// Whatever is not yet set up is sound, so that a container stays sound from its making on.
+// That a container holds together is a fact of its type: what it needs is in its ghost fields, so that no promise has a premise.
 pub trait Container {
     // The meaning, the steps left, what its make fixed, and the words of its memory.
     ghost shows: { Self → Shown };
-
-    ghost sound: { Self → Type 0 };
 
     // The container's own tables: what a call does to this very container, word for word and row for row.
     ghost setting: { Self → ℕ → ℕ → Result (Unit {0}) Refusal → Self → Type 0 };
@@ -26,15 +23,15 @@ pub trait Container {
     ghost stepping: { Self → ℕ → Result (Stepped ℕ) Refusal → Self → Type 0 };
 
     fn set_up(&mut self, capacity: usize, threads: usize) -> Result<(), Refusal>
-        ensures means { Keeps sound self.old self.new (SetsUp (shows self.old) capacity threads result (shows self.new)) }
+        ensures means { SetsUp (shows self.old) capacity threads result (shows self.new) }
         ensures table { setting self.old capacity threads result self.new };
 
     fn begin(&mut self, thread: usize, op: Op<u32>) -> Result<u32, Refusal>
-        ensures means { Keeps sound self.old self.new (Begins (shows self.old) thread op result (shows self.new)) }
+        ensures means { Begins (shows self.old) thread op result (shows self.new) }
         ensures table { beginning self.old thread op result self.new };
 
     fn step(&mut self, thread: usize) -> Result<Stepped<u32>, Refusal>
-        ensures means { Keeps sound self.old self.new (Steps (shows self.old) thread result (shows self.new)) }
+        ensures means { Steps (shows self.old) thread result (shows self.new) }
         ensures table { stepping self.old thread result self.new };
 
     // What its make fixed: the most steps that a thread takes alone, how many numbers it gives, and the words it needs for a
@@ -48,9 +45,7 @@ pub trait Container {
     fn words_needed(&self, capacity: usize) -> usize
         ensures { result ≡ min ((shows self.now).make.needs capacity) (2 ^ 64 - 1) };
 
-    ghost lawful: { (x : Self) → sound x → Lawful (shows x) };
-
-    ghost fresh: { (x : Self) → (shows x).meaning ≡ unset → sound x };
+    ghost lawful: { (x : Self) → Lawful (shows x) };
 }
 
 // A container that can be made over a memory `M`, not yet set up, with that memory's words.
