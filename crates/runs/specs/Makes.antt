@@ -24,7 +24,6 @@ points = record { value = point_value; item = value_point; proper = λ _. Unit {
 abbrev pub lock_vector : {M : Type 0} (words : M → List ℕ) → Container (LockVector M (record { words = words }))
 lock_vector words = record {
   shows = λ v. lock_meaning.shown v.threads (words v.memory);
-  sound = λ v. lock_meaning.Sound v.threads (words v.memory);
   setting = λ v capacity threads r v'. lock_calls.Prepares v.threads (words v.memory) capacity threads r v'.threads (words v'.memory);
   beginning = λ v thread op r v'. lock_calls.Admits v.threads (words v.memory) thread op r v'.threads (words v'.memory);
   stepping = λ v thread r v'. lock_calls.Advances v.threads (words v.memory) thread r v'.threads (words v'.memory);
@@ -34,7 +33,6 @@ lock_vector words = record {
 abbrev pub descriptor_vector : {M : Type 0} (words : M → List ℕ) → Container (DescriptorVector M (record { words = words }))
 descriptor_vector words = record {
   shows = λ v. descriptor_meaning.shown v.table (words v.memory);
-  sound = λ v. descriptor_meaning.Sound v.table (words v.memory);
   setting = λ v capacity threads r v'. descriptor_calls.Prepares v.table (words v.memory) capacity threads r v'.table (words v'.memory);
   beginning = λ v thread op r v'. descriptor_calls.Admits v.table (words v.memory) thread op r v'.table (words v'.memory);
   stepping = λ v thread r v'. descriptor_calls.Advances v.table (words v.memory) thread r v'.table (words v'.memory);

@@ -1,5 +1,5 @@
--- From the calls that led to a bench to the law of runs: a bench over a container that holds together has room for all its records,
--- so that every call did what it should and the log is that of the calls.
+-- From the calls that led to a bench to the law of runs: a bench just made over a container not yet set up has room for all records
+-- to come, so that the log is that of the calls.
 use Rattle.std.proofs.Common.{◌≡◌, ℕ, ◌+◌, ◌≤◌, List, [], ◌∷◌, ◌++◌, length, Ok, Err, vec_items, vec_capacity, sym, refl, ap, ◌∙◌, subst, arith}
 use Rattle.std.proofs.lemmas.List.{append-nil, append_assoc, length-append, length-set, length-replicate, take_all}
 use Rattle.items.specs.declared.Kind.{Ghosts as Kind}
@@ -63,9 +63,8 @@ module _ {C K T : Type 0} (c : Container C) (k : Kind K T) where
         room = rest.room ∙ one.room;
       }
 
-  -- The container of the bench holds together, the log has room for the records to come, and the threads are the container's.
+  -- The log of the bench has room for the records to come, and the threads are the container's.
   record Whole (b : Running C K T) : Type 0 where
-    holds : c.sound b.container
     room : length (vec_items b.log) + to_come (c.shows b.container) ≤ vec_capacity b.log
     counted : b.threads ≡ length (c.shows b.container).meaning.rows
 
@@ -82,14 +81,13 @@ module _ {C K T : Type 0} (c : Container C) (k : Kind K T) where
         let fits : length (items ++ records e) ≤ vec_capacity b.log = omega (arith, length-append items (records e), owes, h.room) in
         (calls_log b u e call).logged ∙ take_all (vec_capacity b.log) (items ++ records e) fits
 
-    goes : (e : Event T) → Calls c k b e u → Does c k (vec_items b.log) b.container e u.container → c.sound u.container
+    goes : (e : Event T) → Calls c k b e u → Does c k (vec_items b.log) b.container e u.container
         → length (records e) + to_come (c.shows u.container) ≡ to_come (c.shows b.container) → u.threads ≡ length (c.shows u.container).meaning.rows → Went b e u
-    goes e call does holds owes counted =
+    goes e call does owes counted =
         let logged = all_logged e call owes in
         record {
           does = does;
           whole = record {
-            holds = holds;
             room = omega (arith, ap length logged, length-append (vec_items b.log) (records e), (calls_log b u e call).room, owes, h.room);
             counted = counted;
           };
@@ -100,40 +98,36 @@ module _ {C K T : Type 0} (c : Container C) (k : Kind K T) where
     rows_same : c.shows u.container ≡ c.shows b.container → u.threads ≡ b.threads → u.threads ≡ length (c.shows u.container).meaning.rows
     rows_same same threads = threads ∙ h.counted ∙ sym (ap (λ s. length s.meaning.rows) same)
 
-  module _ (lawful : (x : C) → c.sound x → Lawful (c.shows x)) where
+  module _ (lawful : (x : C) → Lawful (c.shows x)) where
     went : (b u : Running C K T) (e : Event T) → Calls c k b e u → Whole b → Went b e u
     went b u (SetUpCall n m (Ok x)) call h =
-        let did = call.means h.holds in
-        goes b u h (SetUpCall n m (Ok x)) call (did.1, call.table) did.0
-        (omega (arith, set_up_owes (c.shows b.container) (c.shows u.container) n m x (lawful b.container h.holds).before did.1))
-        (call.threads_now ∙ sym (ap (λ q. length q.rows) did.1.1.0 ∙ length-replicate m idle))
+        goes b u h (SetUpCall n m (Ok x)) call (call.means, call.table)
+        (omega (arith, set_up_owes (c.shows b.container) (c.shows u.container) n m x (lawful b.container).before call.means))
+        (call.threads_now ∙ sym (ap (λ q. length q.rows) call.means.1.0 ∙ length-replicate m idle))
     went b u (SetUpCall n m (Err f)) call h =
-        let did = call.means h.holds in
-        goes b u h (SetUpCall n m (Err f)) call (did.1, call.table) did.0 (omega (arith, ap to_come did.1.1)) (rows_same b u h did.1.1 call.threads_now)
+        goes b u h (SetUpCall n m (Err f)) call (call.means, call.table) (omega (arith, ap to_come call.means.1)) (rows_same b u h call.means.1 call.threads_now)
     went b u (BeginCall t op (Ok n)) call h =
-        let did = call.means h.holds in
-        goes b u h (BeginCall t op (Ok n)) call (did.1, call.table, call.back) did.0
-        (begin_owes (c.shows b.container) (c.shows u.container) t _ n did.1)
-        (call.threads_same ∙ h.counted ∙ sym (ap (λ q. length q.rows) did.1.1.1 ∙ length-set (c.shows b.container).meaning.rows _ _))
+        goes b u h (BeginCall t op (Ok n)) call (call.means, call.table, call.back)
+        (begin_owes (c.shows b.container) (c.shows u.container) t _ n call.means)
+        (call.threads_same ∙ h.counted ∙ sym (ap (λ q. length q.rows) call.means.1.1 ∙ length-set (c.shows b.container).meaning.rows _ _))
     went b u (BeginCall t op (Err f)) call h =
-        let did = call.means h.holds in
-        goes b u h (BeginCall t op (Err f)) call (did.1, call.table, call.back) did.0 (omega (arith, ap to_come did.1.1)) (rows_same b u h did.1.1 call.threads_same)
+        goes b u h (BeginCall t op (Err f)) call (call.means, call.table, call.back) (omega (arith, ap to_come call.means.1)) (rows_same b u h call.means.1 call.threads_same)
     went b u (StepCall t (Ok x)) call h =
         let s = c.shows b.container in
         let w = c.shows u.container in
         let y = call.turned.0 in
         let is = call.turned.1 in
-        let did = call.turned.2.0 h.holds in
-        goes b u h (StepCall t (Ok x)) call (y, is, (did.1, call.turned.2.1)) did.0
-        (omega (arith, ap (λ (z : Stepped T). length (step_records (Ok z))) is, step_owes s w k.item t y did.1))
-        (call.threads_same ∙ h.counted ∙ sym (moves_same s.meaning w.meaning t y did.1.1.0).1)
+        let did = call.turned.2.0 in
+        goes b u h (StepCall t (Ok x)) call call.turned
+        (omega (arith, ap (λ (z : Stepped T). length (step_records (Ok z))) is, step_owes s w k.item t y did))
+        (call.threads_same ∙ h.counted ∙ sym (moves_same s.meaning w.meaning t y did.1.0).1)
     went b u (StepCall t (Err f)) call h =
-        let did = call.turned.0 h.holds in
-        goes b u h (StepCall t (Err f)) call (did.1, call.turned.1) did.0 (omega (arith, ap to_come did.1.1)) (rows_same b u h did.1.1 call.threads_same)
+        let did = call.turned.0 in
+        goes b u h (StepCall t (Err f)) call call.turned (omega (arith, ap to_come did.1)) (rows_same b u h did.1 call.threads_same)
     went b u (LookCall t r) (looks, same) h =
         let stays = ap (λ x. c.shows x.container) same in
         goes b u h (LookCall t r) (looks, same) (subst (λ (n : ℕ). Looks n (vec_items b.log) t r) h.counted looks, ap (λ x. x.container) same)
-        (subst (λ (x : Running C K T). c.sound x.container) (sym same) h.holds) (omega (arith, ap to_come stays)) (rows_same b u h stays (ap (λ x. x.threads) same))
+        (omega (arith, ap to_come stays)) (rows_same b u h stays (ap (λ x. x.threads) same))
 
     -- what a history comes to
     performed : (b b' : Running C K T) (es : List (Event T)) → Leads c k b es b' → Whole b → Performed c k (vec_items b.log) b.container es b'.container × (vec_items b'.log ≡ vec_items b.log ++ recorded es)
@@ -142,43 +136,40 @@ module _ {C K T : Type 0} (c : Container C) (k : Kind K T) where
         let one = went b u e call h in
         let rest = performed u b' es leads one.whole in
         let run = subst (λ (l : List (Record T)). Performed c k l u.container es b'.container) one.logged rest.0 in (
-          (u.container, one.does, lawful u.container one.whole.holds, run),
+          (u.container, one.does, lawful u.container, run),
           rest.1 ∙ ap (λ l. l ++ recorded es) one.logged ∙ append_assoc (vec_items b.log) (records e) (recorded es),
         )
 
-    module _ (fresh : (x : C) → (c.shows x).meaning ≡ unset → c.sound x) where
-      first_whole : (start : C) (b : Running C K T) → (c.shows start).meaning ≡ unset → Makes c start b → Whole b
-      first_whole start b new made =
-          let shows_new : (c.shows b.container).meaning ≡ unset = ap (λ x. (c.shows x).meaning) made.over ∙ new in
-          record {
-            holds = fresh b.container shows_new;
-            room = omega (arith, ap length made.empty, new_owes (c.shows b.container) shows_new, ap (λ x. (c.shows x).make.numbers) made.over, made.room);
-            counted = made.no_threads ∙ sym (ap (λ m. length m.rows) shows_new);
-          }
+    first_whole : (start : C) (b : Running C K T) → (c.shows start).meaning ≡ unset → Makes c start b → Whole b
+    first_whole start b new made =
+        let shows_new : (c.shows b.container).meaning ≡ unset = ap (λ x. (c.shows x).meaning) made.over ∙ new in
+        record {
+          room = omega (arith, ap length made.empty, new_owes (c.shows b.container) shows_new, ap (λ x. (c.shows x).make.numbers) made.over, made.room);
+          counted = made.no_threads ∙ sym (ap (λ m. length m.rows) shows_new);
+        }
 
-      -- the law of runs, of every history
-      pub ran : (start : C) (es : List (Event T)) (b : Running C K T) → Led c k start es b → Ran c k start es (vec_items b.log) b.container
-      ran start es b led =
-          let first = led.first in
-          let new = led.not_set_up in
-          let made = led.made in
-          let all = performed first b es led.leads (first_whole start first new made) in
-          let x = b.container in
-          let run : Performed c k [] start es x =
-          subst (λ (y : C). Performed c k [] y es x) made.over (subst (λ (l : List (Record T)). Performed c k l first.container es x) made.empty all.0) in
-          let log : vec_items b.log ≡ recorded es = all.1 ∙ ap (λ l. l ++ recorded es) made.empty in
-          let ok = lawful start (fresh start new) in
-          let same : (c.shows x).make.bound ≡ (c.shows start).make.bound = ap (λ m. m.bound) (after_run c k [] start x es run ok (at_first c k start new)).make_same in
-          record {
-            performed = run;
-            law = rw (log, same) (record {
-              log_is_true = log_is_true c k start x es new ok run;
-              plainly_ordered = plainly_ordered c k start x es new ok run;
-              ends_in_time = ends_in_time c k start x es new ok run;
-            });
-          }
+    -- the law of runs, of every history
+    pub ran : (start : C) (es : List (Event T)) (b : Running C K T) → Led c k start es b → Ran c k start es (vec_items b.log) b.container
+    ran start es b led =
+        let first = led.first in
+        let new = led.not_set_up in
+        let made = led.made in
+        let all = performed first b es led.leads (first_whole start first new made) in
+        let x = b.container in
+        let run : Performed c k [] start es x =
+        subst (λ (y : C). Performed c k [] y es x) made.over (subst (λ (l : List (Record T)). Performed c k l first.container es x) made.empty all.0) in
+        let log : vec_items b.log ≡ recorded es = all.1 ∙ ap (λ l. l ++ recorded es) made.empty in
+        let same : (c.shows x).make.bound ≡ (c.shows start).make.bound = ap (λ m. m.bound) (after_run c k [] start x es run (at_first c k start new)).make_same in
+        record {
+          performed = run;
+          law = rw (log, same) (record {
+            log_is_true = log_is_true c k start x es new run;
+            plainly_ordered = plainly_ordered c k start x es new run;
+            ends_in_time = ends_in_time c k start x es new lawful run;
+          });
+        }
 
-      pub runs_on : (b b' : Running C K T) (more : List (Event T)) → Leads c k b more b' → RunsOn c k b more b'
-      runs_on b b' more leads start es led =
-          let on = led_on b b' more leads start es led in
-          (on, ran start (es ++ more) b' on)
+    pub runs_on : (b b' : Running C K T) (more : List (Event T)) → Leads c k b more b' → RunsOn c k b more b'
+    runs_on b b' more leads start es led =
+        let on = led_on b b' more leads start es led in
+        (on, ran start (es ++ more) b' on)

@@ -5,7 +5,7 @@ use Rattle.std.proofs.lemmas.List.{append-nil, append_assoc}
 use Rattle.std.proofs.lemmas.Grind.{flat_map-append}
 use Rattle.items.specs.declared.Kind.{Ghosts as Kind}
 use Rattle.vector.specs.Plain.{map_op}
-use Rattle.vector.specs.Meaning.{Shown, Lawful, unset, row_of}
+use Rattle.vector.specs.Meaning.{Shown, unset, row_of}
 use Rattle.vector.specs.Calls.{begun}
 use Rattle.vector.specs.declared.Ended.{Ended}
 use Rattle.vector.specs.declared.Stepped.{Stepped}
@@ -100,23 +100,20 @@ module _ {C K T : Type 0} (c : Container C) (k : Kind K T) where
     pub held : Held (log ++ recorded es) w
     pub make_same : w.make ≡ s.make
     pub capacity_now : w.meaning.capacity ≡ fold named_capacity s.meaning.capacity es
-    pub lawful : Lawful w
 
-  pub after_run : (log : List (Record T)) (x w : C) (es : List (Event T)) → Performed c k log x es w → Lawful (c.shows x) → Held log (c.shows x) → After log (c.shows x) es (c.shows w)
-  after_run log x w [] same law h = record {
+  pub after_run : (log : List (Record T)) (x w : C) (es : List (Event T)) → Performed c k log x es w → Held log (c.shows x) → After log (c.shows x) es (c.shows w)
+  after_run log x w [] same h = record {
     held = subst (λ (y : C). Held (log ++ []) (c.shows y)) (sym same) (subst (λ (l : List (Record T)). Held l (c.shows x)) (sym (append-nil log)) h);
     make_same = ap (λ y. (c.shows y).make) same;
     capacity_now = ap (λ y. (c.shows y).meaning.capacity) same;
-    lawful = subst (λ (y : C). Lawful (c.shows y)) (sym same) law;
   }
-  after_run log x w (e ∷ es) (u, does, law', rest) law h =
+  after_run log x w (e ∷ es) (u, does, law, rest) h =
       let a = onward log x u h e does in
-      let b = after_run (log ++ records e) u w es rest law' a.held in
+      let b = after_run (log ++ records e) u w es rest a.held in
       record {
         held = subst (λ (l : List (Record T)). Held l (c.shows w)) (append_assoc log (records e) (recorded es)) b.held;
         make_same = b.make_same ∙ a.make_same;
         capacity_now = b.capacity_now ∙ ap (λ n. fold named_capacity n es) a.capacity_now;
-        lawful = b.lawful;
       }
 
   -- a run in two parts
@@ -180,12 +177,12 @@ module _ {C K T : Type 0} (c : Container C) (k : Kind K T) where
   by_events f g each [] = refl
   by_events f g each (e ∷ es) = flat_map-append f (records e) (recorded es) ∙ ap (λ l. l ++ flat_map f (recorded es)) (each e) ∙ ap (λ l. g e ++ l) (by_events f g each es)
 
-  module _ (x w : C) (es : List (Event T)) (new : (c.shows x).meaning ≡ unset) (lawful : Lawful (c.shows x)) (run : Performed c k [] x es w) where
+  module _ (x w : C) (es : List (Event T)) (new : (c.shows x).meaning ≡ unset) (run : Performed c k [] x es w) where
     -- at every moment what is read off the log is true
     pub tells_then : (pre post : List (Event T)) (t : ℕ) → es ≡ pre ++ post → Tells t (recorded pre) (told t (recorded pre))
     tells_then pre post t is =
         let p = parted [] x w pre post (subst (λ (l : List (Event T)). Performed c k [] x l w) is run) in
-        let a = after_run [] x p.0 pre p.1 lawful (at_first x new) in
+        let a = after_run [] x p.0 pre p.1 (at_first x new) in
         tells k.value k.item (recorded pre) (c.shows p.0).meaning a.held.kept t
 
     looked : (pre post : List (Event T)) (t : ℕ) (o : Option Open) → es ≡ pre ++ LookCall t (Ok o) ∷ post → o ≡ told t (recorded pre)
@@ -194,7 +191,7 @@ module _ {C K T : Type 0} (c : Container C) (k : Kind K T) where
         p.2.1.0.1
 
     end : After [] (c.shows x) es (c.shows w)
-    end = after_run [] x w es run lawful (at_first x new)
+    end = after_run [] x w es run (at_first x new)
 
     pub log_is_true : LogIsTrue es (recorded es)
     log_is_true = record {

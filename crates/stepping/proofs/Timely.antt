@@ -130,18 +130,18 @@ told_none : {T : Type 0} (u : ℕ) (log : List (Record T)) (o : Option Open) →
 told_none u log None h idle_u = refl
 told_none u log (Some o) h idle_u = absurd (idle_u o.number h.0)
 
-module _ {C K T : Type 0} (c : Container C) (k : Kind K T) (x w : C) (es : List (Event T)) (new : (c.shows x).meaning ≡ unset) (lawful : Lawful (c.shows x)) (run : Performed c k [] x es w) where
+module _ {C K T : Type 0} (c : Container C) (k : Kind K T) (x w : C) (es : List (Event T)) (new : (c.shows x).meaning ≡ unset) (lawful : (y : C) → Lawful (c.shows y)) (run : Performed c k [] x es w) where
   few_steps : (pre mid post : List (Event T)) (t : ℕ) → es ≡ pre ++ (mid ++ post) → AloneDuring t pre mid → steps_of t mid < (c.shows x).make.bound
   few_steps pre mid post t is during =
       let p = parted c k [] x w pre (mid ++ post) (subst (λ (l : List (Event T)). Performed c k [] x l w) is run) in
-      let a = after_run c k [] x p.0 pre p.1 lawful (at_first c k x new) in
+      let a = after_run c k [] x p.0 pre p.1 (at_first c k x new) in
       let q = parted c k (recorded pre) p.0 w mid post p.2 in
-      let b = after_run c k (recorded pre) p.0 q.0 mid q.1 a.lawful a.held in
+      let b = after_run c k (recorded pre) p.0 q.0 mid q.1 a.held in
       let f = steps_fall c k pre mid (recorded pre) p.0 q.0 t q.1 a.held refl during in
       let first : AloneIn t (recorded pre) = subst (λ (l : List (Event T)). AloneIn t (recorded l)) (append-nil pre) (during [] mid refl) in
       let last : AloneIn t (recorded pre ++ recorded mid) = subst (AloneIn t) (flat_map-append records pre mid) (during mid [] (sym (append-nil mid))) in
-      let bounded = a.lawful.left_alone t (alone c k (recorded pre) (c.shows p.0) t a.held first) in
-      let more = b.lawful.left_alone t (alone c k (recorded pre ++ recorded mid) (c.shows q.0) t b.held last) in
+      let bounded = (lawful p.0).left_alone t (alone c k (recorded pre) (c.shows p.0) t a.held first) in
+      let more = (lawful q.0).left_alone t (alone c k (recorded pre ++ recorded mid) (c.shows q.0) t b.held last) in
       let same = ap (λ m. m.bound) a.make_same in
       omega (arith, more.0, bounded.1, same, f)
 
@@ -150,7 +150,7 @@ module _ {C K T : Type 0} (c : Container C) (k : Kind K T) (x w : C) (es : List 
       let moment : (so_far later : List (Event T)) → mid ≡ so_far ++ later → es ≡ (pre ++ so_far) ++ (later ++ post) = λ so_far later e.
       is ∙ ap (λ l. pre ++ (l ++ post)) e ∙ ap (λ l. pre ++ l) (append_assoc so_far later post) ∙ sym (append_assoc pre so_far (later ++ post)) in
       let tells_at : (so_far later : List (Event T)) → mid ≡ so_far ++ later → (u : ℕ) → Tells u (recorded (pre ++ so_far)) (told u (recorded (pre ++ so_far))) = λ so_far later e u.
-      tells_then c k x w es new lawful run (pre ++ so_far) (later ++ post) u (moment so_far later e) in
+      tells_then c k x w es new run (pre ++ so_far) (later ++ post) u (moment so_far later e) in
       elim (open_or_none t pre mid) [
         | inl all ↦
             let short : steps_of t mid < (c.shows x).make.bound = few_steps pre mid post t is

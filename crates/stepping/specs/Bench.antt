@@ -1,11 +1,11 @@
 -- What the calls of a bench do to it: to its container, to its threads and to its log.
--- `Container C` is what containers of the type C say of themselves: `shows`, `sound`, and their own tables `setting`, `beginning` and
--- `stepping`. `Kind K T` is how items of the type T turn into values and back: `value` and `item`.
+-- `Container C` is what containers of the type C say of themselves: `shows`, and their own tables `setting`, `beginning` and `stepping`.
+-- `Kind K T` is how items of the type T turn into values and back: `value` and `item`.
 use Rattle.std.specs.Prelude.{◌≡◌, ℕ, ◌*◌, ◌≤◌, List, [], ◌∷◌, ◌++◌, take, Some, None, Ok, Err, vec_items, vec_capacity, Option, Result}
 use Rattle.refusal.specs.declared.Refusal.{Refusal}
 use Rattle.items.specs.declared.Kind.{Ghosts as Kind}
 use Rattle.vector.specs.Plain.{map_op, map_answer}
-use Rattle.vector.specs.Calls.{Keeps, SetsUp, Begins, Steps}
+use Rattle.vector.specs.Calls.{SetsUp, Begins, Steps}
 use Rattle.vector.specs.Refusals.{Judged, outside}
 use Rattle.vector.specs.declared.Op.{Op}
 use Rattle.vector.specs.declared.Ended.{Ended}
@@ -66,7 +66,7 @@ module _ {C K T : Type 0} where
 
     -- a set-up: the container's, and if that is granted the bench has the threads that it names
     pub record BenchSetsUp (b : Running C K T) (capacity threads : ℕ) (r : Result (Unit {0}) Refusal) (b' : Running C K T) : Type 0 where
-      pub means : Keeps c.sound b.container b'.container (SetsUp (c.shows b.container) capacity threads r (c.shows b'.container))
+      pub means : SetsUp (c.shows b.container) capacity threads r (c.shows b'.container)
       pub table : c.setting b.container capacity threads r b'.container
       pub threads_now : b'.threads ≡ named r threads b.threads
       pub log_same : b'.log ≡ b.log
@@ -74,7 +74,7 @@ module _ {C K T : Type 0} where
     module _ (k : Kind K T) where
       -- a begin: the container's with values for items, which come back; a granted one is recorded
       pub record BenchBegins (b : Running C K T) (t : ℕ) (op : Op T) (r : Result ℕ Refusal) (b' : Running C K T) : Type 0 where
-        pub means : Keeps c.sound b.container b'.container (Begins (c.shows b.container) t (map_op k.value op) r (c.shows b'.container))
+        pub means : Begins (c.shows b.container) t (map_op k.value op) r (c.shows b'.container)
         pub table : c.beginning b.container t (map_op k.value op) r b'.container
         pub back : map_op k.item (map_op k.value op) ≡ op
         pub threads_same : b'.threads ≡ b.threads
@@ -82,9 +82,7 @@ module _ {C K T : Type 0} where
 
       -- a step: the container's, with items for values in what it gave; its effect and its end are recorded
       pub record BenchSteps (b : Running C K T) (t : ℕ) (r : Result (Stepped T) Refusal) (b' : Running C K T) : Type 0 where
-        pub turned : Turned k.item r (λ y.
-            Keeps c.sound b.container b'.container (Steps (c.shows b.container) t y (c.shows b'.container))
-            × c.stepping b.container t y b'.container)
+        pub turned : Turned k.item r (λ y. Steps (c.shows b.container) t y (c.shows b'.container) × c.stepping b.container t y b'.container)
         pub threads_same : b'.threads ≡ b.threads
         pub logs : Logs b (step_records r) b'
 

@@ -6,8 +6,8 @@ ghost use Rattle.stepping.specs.Log.{step_records};
 use crate::Record;
 use vector::Stepped;
 
-// The log had room for all its records when the bench was made, so that over a container that holds together the test never fails;
-// over any other, what has no room is left out.
+// A bench made over a container not yet set up has room for all its records, so that the test never fails. It stays, since a bench may
+// be made over any container, and none says that it has no more open operations than numbers given: what has no room is left out.
 pub(crate) fn append<T: Copy>(log: &mut Vec<Record<T>>, more: Option<Record<T>>)
     ensures items { log.new.items ≡ take (vec_capacity log.old) (log.old.items ++ option_to_list more) }
     ensures capacity { vec_capacity log.new ≡ vec_capacity log.old }

@@ -39,5 +39,5 @@ returns g c =
       rest = rw all at so_far.rest;
       leads = leads;
       logs = leads_log _ _ _ _ _ leads;
-      law = runs_on _ _ g.met.C.Container.lawful g.met.C.Container.fresh _ _ _ leads;
+      law = runs_on _ _ g.met.C.Container.lawful _ _ _ leads;
     }
