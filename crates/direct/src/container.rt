@@ -1,7 +1,6 @@
 // That it is a container: its promises, and what its calls do to its fields.
 ghost use Rattle.direct.specs.Shows.{shown};
 ghost use Rattle.direct.specs.Fields.{Prepares, Admits, Performs};
-ghost use Rattle.std.proofs.Common.{rules};
 ghost use Rattle.direct.specs.Steps;
 
 use crate::Direct;
@@ -15,18 +14,13 @@ const NUMBERS: u16 = 400;
 impl Container for Direct {
     ghost shows = { λ d. shown d.threads d.values.items };
 
-    // Its type says all that it needs.
-    ghost sound = { λ _. Unit {0} };
-
     ghost setting = { λ d capacity threads r d'. Prepares d capacity threads r d' };
 
     ghost beginning = { λ d thread op r d'. Admits d thread op r d' };
 
     ghost stepping = { λ d thread r d'. Performs d thread r d' };
 
-    ghost lawful = { λ d _. Steps.lawful d };
-
-    ghost fresh = { Prim.search rules };
+    ghost lawful = { λ d. Steps.lawful d };
 
     fn set_up(&mut self, capacity: usize, threads: usize) -> Result<(), Refusal> {
         // What is not set up has no values.

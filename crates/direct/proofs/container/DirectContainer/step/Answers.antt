@@ -6,4 +6,4 @@ returns-clause-means c =
     let d = c.args.self.now in
     let h = c.in_ok-task.ensures in
     let does = c.perform-answer.ensures in
-    λ sound. (sound, rw (c.settle.ensures, c.from-number.ensures, does.answers, does.holds, c.from-capacity.ensures) (steps d.threads d.values.items d.few d.eight c.args.thread c.in_ok-task.task h.0 h.1))
+    rw (c.settle.ensures, c.from-number.ensures, does.answers, does.holds, c.from-capacity.ensures) (steps d.threads d.values.items d.few d.eight c.args.thread c.in_ok-task.task h.0 h.1)
