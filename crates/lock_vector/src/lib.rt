@@ -1,11 +1,12 @@
 // A vector under a lock, over any memory: a thread takes the lock, works as if it were alone, and frees it.
 #![tactic(auto)]
 
-ghost use Rattle.std.specs.Prelude.{◌≡◌, ◌≤◌, length};
+ghost use Rattle.std.specs.Prelude.{◌≡◌};
 ghost use Rattle.vector.specs.Threads.{idle_threads};
 ghost use Rattle.lock_vector.specs.Calls.{Acts, Prepares, Admits, Advances};
 ghost use Rattle.lock_vector.specs.Meaning.{Sound, shown};
 ghost use Rattle.lock_vector.specs.Played.{FreshPush, WaitingSize};
+ghost use Rattle.lock_vector.specs.Once.{sound_once};
 ghost use Rattle.lock_vector.specs.Keeps;
 
 use crate::stages::{FIRST_CELL, Moved, Stage, Swapping, on_load, on_swap};
@@ -18,13 +19,12 @@ mod stages;
 // How many numbers it gives.
 const NUMBERS: u16 = 400;
 
-// Its words are in the memory, all else is in what it keeps of its threads. The law `fresh` rests on the two facts.
+// Its words are in the memory, all else is in what it keeps of its threads.
 #[derive(Drop)]
 pub struct LockVector<M: Memory> {
     memory: M,
     threads: Threads<Stage>,
-    ghost few: { threads.count ≤ 8 },
-    ghost eight: { length threads.rows ≡ 8 },
+    ghost sound: { Sound threads (M.words memory) } by { sound_once threads (M.words memory) },
 }
 
 // One stage of an open operation, with its one access of the memory.
@@ -98,17 +98,13 @@ pub fn played_runs() -> usize
 impl<M: Memory> Container for LockVector<M> {
     ghost shows = { λ v. shown v.threads (M.Memory.words v.memory) };
 
-    ghost sound = { λ v. Sound v.threads (M.Memory.words v.memory) };
-
     ghost setting = { λ v capacity threads r v'. Prepares v.threads (M.Memory.words v.memory) capacity threads r v'.threads (M.Memory.words v'.memory) };
 
     ghost beginning = { λ v thread op r v'. Admits v.threads (M.Memory.words v.memory) thread op r v'.threads (M.Memory.words v'.memory) };
 
     ghost stepping = { λ v thread r v'. Advances v.threads (M.Memory.words v.memory) thread r v'.threads (M.Memory.words v'.memory) };
 
-    ghost lawful = { λ v. Keeps.lawful v.threads (M.Memory.words v.memory) };
-
-    ghost fresh = { λ v e. Keeps.fresh v.threads (M.Memory.words v.memory) v.few v.eight e };
+    ghost lawful = { λ v. Keeps.lawful v.threads (M.Memory.words v.memory) v.sound };
 
     fn set_up(&mut self, capacity: usize, threads: usize) -> Result<(), Refusal> {
         self.prepare(capacity, threads)
