@@ -239,6 +239,11 @@ module _ (T : Table) (W : List ℕ) (few : T.threads.count ≤ 8) (eight : lengt
       (inr g.0, (sym (step_same T W few eight sound t) ∙ h.0, (g.1, g.3, g.2)))
 
 -- THE LAWS
+-- where there are no threads, nobody has an open operation
+pub nobody : (t : ℕ) → is_open (row_of [] t) ≡ false
+nobody zero = refl
+nobody (suc t) = refl
+
 pub lawful : (T : Table) (W : List ℕ) → Sound T W → Lawful (shown T W)
 lawful T W sound = record {
   before = elim sound [ inl e ↦ (λ _. e) | inr run ↦ (λ z. let o = run.coded.some_cell in absurd (omega arith)) ];
@@ -249,7 +254,3 @@ lawful T W sound = record {
   some_numbers = omega arith;
   few_numbers = omega arith;
 }
-  where
-    nobody : (t : ℕ) → is_open (row_of [] t) ≡ false
-    nobody zero = refl
-    nobody (suc t) = refl

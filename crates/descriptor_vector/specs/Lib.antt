@@ -8,3 +8,4 @@ pub mod Fits
 pub mod Stages
 pub mod Looking
 pub mod Places
+pub mod Once

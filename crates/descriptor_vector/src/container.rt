@@ -1,8 +1,7 @@
 // The vector is a container of 32-bit values, over every memory.
 ghost use Rattle.descriptor_vector.specs.Calls.{Prepares, Admits, Advances};
-ghost use Rattle.descriptor_vector.specs.Sound.{shown, Sound};
-ghost use Rattle.descriptor_vector.specs.Keeps;
-ghost use Rattle.std.proofs.Common.{inl};
+ghost use Rattle.descriptor_vector.specs.Sound.{shown};
+ghost use Rattle.descriptor_vector.specs.Once;
 
 use crate::structure::DescriptorVector;
 use memory::Memory;
@@ -12,17 +11,13 @@ use vector::{Container, Op, Over, Stepped};
 impl<M: Memory> Container for DescriptorVector<M> {
     ghost shows = { λ v. shown v.table (M.Memory.words v.memory) };
 
-    ghost sound = { λ v. Sound v.table (M.Memory.words v.memory) };
-
     ghost setting = { λ v capacity threads r v'. Prepares v.table (M.Memory.words v.memory) capacity threads r v'.table (M.Memory.words v'.memory) };
 
     ghost beginning = { λ v thread op r v'. Admits v.table (M.Memory.words v.memory) thread op r v'.table (M.Memory.words v'.memory) };
 
     ghost stepping = { λ v thread r v'. Advances v.table (M.Memory.words v.memory) thread r v'.table (M.Memory.words v'.memory) };
 
-    ghost lawful = { λ v. Keeps.lawful v.table (M.Memory.words v.memory) };
-
-    ghost fresh = { λ v e. inl e };
+    ghost lawful = { λ v. Once.lawful v.table (M.Memory.words v.memory) v.sound };
 
     fn set_up(&mut self, capacity: usize, threads: usize) -> Result<(), Refusal> {
         self.prepare(capacity, threads)

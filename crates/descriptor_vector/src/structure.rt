@@ -1,5 +1,6 @@
 // The vector: a memory, and what it keeps beside it.
 ghost use Rattle.std.specs.Prelude.{◌≡◌, ◌≤◌, length};
+ghost use Rattle.descriptor_vector.specs.Sound.{Sound};
 
 use crate::table::Table;
 use memory::Memory;
@@ -10,4 +11,6 @@ pub struct DescriptorVector<M: Memory> {
     pub(crate) table: Table,
     ghost few: { table.threads.count ≤ 8 },
     ghost eight: { length table.threads.rows ≡ 8 },
+    // It holds together.
+    ghost sound: { ∥ Sound table (M.words memory) ∥₁ },
 }

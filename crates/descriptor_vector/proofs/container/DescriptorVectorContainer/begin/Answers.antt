@@ -1,6 +1,7 @@
-use Rattle.descriptor_vector.specs.Keeps.{keeps_begin}
+use Rattle.descriptor_vector.specs.Once.{begins}
 use Rattle.descriptor_vector.proofs.container.DescriptorVectorContainer.begin.Goals as goal
 
 pub returns : goal.returns
 returns g c =
-    record { means = keeps_begin _ _ c.args.self.now.few c.args.self.now.eight _ _ c.admit.result _ _ c.admit.ensures; table = c.admit.ensures }
+    let v = c.args.self.now in
+    record { means = begins _ _ v.sound v.few v.eight c.args.thread c.args.op c.admit.result _ _ c.admit.ensures; table = c.admit.ensures }
