@@ -31,6 +31,7 @@ pub enum Then {
 }
 
 // The labels of the step table, each with what the thread remembers. `G5w` is G5 reached from G4, with the word seen there.
+// What several remember is no struct of its own: each names all of it, as its row of the table does.
 #[derive(Clone, Copy)]
 pub enum Stage {
     L1,

@@ -21,6 +21,7 @@ pub enum Status {
     Final(u32),
 }
 
+// Named, and not `From`: the clauses `back` say of the two that each undoes the other.
 impl Cell {
     // The word of a cell. Two cells in range have the same word only if they are the same.
     pub fn encode(self) -> u64

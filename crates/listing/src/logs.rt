@@ -19,8 +19,8 @@ fn room_left<T: WriteItem>(log: &[Record<T>], room: usize) -> Option<usize>
     Some(left)
 }
 
-// Writes the listing of a log at the beginning of the output, and answers its length. A listing that is too long is
-// refused before anything is written.
+// Writes the listing of a log at the beginning of the output, and answers its length. The output is the caller's, so that no memory
+// can lack. A listing that is too long is refused before anything is written.
 pub fn list<T: WriteItem>(log: &[Record<T>], output: &mut [u8]) -> Result<usize, Refusal>
     ensures { Listed (listing T.WriteItem.text log.now) output.old output.new result }
 {

@@ -35,6 +35,7 @@ pub struct Header {
     pub threads: usize,
 }
 
+// Three impls, and not one: each type has letters of its own.
 impl TryFrom<char> for ContainerChoice {
     type Error = Refusal;
 

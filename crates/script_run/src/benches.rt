@@ -95,6 +95,7 @@ pub fn run_script(
     ensures done { Done result (λ o. ScriptRun bytes.now output.old o output.new) (output.new ≡ output.old) }
     ensures lacks { LacksOnly result (AsksForBench bytes.now) }
 {
+    // A fault is an answer here, which `?` would not hand on.
     match open(bytes) {
         Err(fault) => Ok(Err(fault)),
         Ok(script) => match script.header.kind {

@@ -31,6 +31,7 @@ impl<C: Container, K: Kind> Running<C, K> {
         ensures led { IfOk result (λ b. (C.Container.shows container).meaning ≡ unset → Led C.Container K.Kind container [] b) }
         ensures refused { IfErr result (λ e. e.value ≡ container) }
     {
+        // No `map_err`: its closure would take the container, which an `Ok` needs too.
         let Ok(log) = Vec::with_capacity(heap, 3 * container.numbers() as usize) else {
             return Err(AllocFailed { value: container });
         };

@@ -1,4 +1,5 @@
-// The tables of refusals, for containers to ask: the upper row wins.
+// The tables of refusals, for containers to ask: the upper row wins. They take what they judge one by one, and no `Threads`, so that
+// a container that keeps its threads otherwise can ask too.
 ghost use Rattle.std.specs.Prelude.{◌≡◌};
 ghost use Rattle.vector.specs.Refusals.{Judges, set_up_rows, begin_rows, step_rows};
 ghost use Rattle.vector.specs.Plain.{index_fits};

@@ -14,7 +14,8 @@ pub struct Task<S> {
     pub stage: S,
 }
 
-// Before set-up the capacity is 0 and there are no threads. The struct is plain, so that a definition can say what it is after a call.
+// Before set-up the capacity is 0 and there are no threads. The struct is plain, an array with a count beside it and no ArrayVec,
+// so that a definition can say what it is after a call.
 #[derive(Drop)]
 pub struct Threads<S> {
     pub capacity: u16,
