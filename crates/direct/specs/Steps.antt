@@ -14,8 +14,6 @@ use Rattle.vector.specs.declared.threads.Threads.{Threads}
 use Rattle.vector.proofs.Rows.{row_set_same}
 use Rattle.vector.proofs.Tasks.{same_meaning, set_up_granted, begin_granted, step_granted, all_idle, count, means, rows_after, begin_same, step_same, left_after, left_some}
 use Rattle.direct.specs.Shows.{Own, row, shown, whole}
-use Rattle.direct.specs.Fields.{held}
-use Rattle.direct.specs.declared.Direct.{Direct}
 
 open_row : (o : Option Own) → is_open (row o) ≡ is_some o
 open_row None = refl
@@ -89,10 +87,11 @@ module _ (T : Threads (Unit {0})) (xs : List ℕ) (few : T.count ≤ 8) (eight :
         ),
       )
 
-pub lawful : (d : Direct) → Lawful (shown d.threads (held d))
-lawful d = record {
-  before = λ z. let b = d.bare z in same_meaning z b.1 (ap (λ n. map row (take n d.threads.rows)) b.0) b.2;
-  left_alone = λ t alone. (left_some row refl open_row one_if some_one d.threads.count d.threads.rows (long d.threads (held d) d.few d.eight) t alone.0, few_left d.threads (held d) d.few d.eight);
-  some_numbers = omega arith;
-  few_numbers = omega arith;
-}
+  -- before set-up nothing is there
+  pub lawful : (T.capacity ≡ 0 → (T.count ≡ 0) × (xs ≡ []) × (T.given ≡ 0)) → Lawful (shown T xs)
+  lawful bare = record {
+    before = λ z. let b = bare z in same_meaning z b.1 (ap (λ n. map row (take n T.rows)) b.0) b.2;
+    left_alone = λ t alone. (left_some row refl open_row one_if some_one T.count T.rows long t alone.0, few_left);
+    some_numbers = omega arith;
+    few_numbers = omega arith;
+  }

@@ -20,7 +20,7 @@ impl Container for Direct {
 
     ghost stepping = { λ d thread r d'. Performs d thread r d' };
 
-    ghost lawful = { λ d. Steps.lawful d };
+    ghost lawful = { λ d. Steps.lawful d.threads d.values.items d.few d.eight d.bare };
 
     fn set_up(&mut self, capacity: usize, threads: usize) -> Result<(), Refusal> {
         // What is not set up has no values.

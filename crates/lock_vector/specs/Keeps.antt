@@ -8,13 +8,13 @@ use Rattle.vector.specs.declared.Op.{Op}
 use Rattle.vector.specs.declared.Stepped.{Stepped}
 use Rattle.vector.specs.declared.threads.Task.{Task}
 use Rattle.vector.specs.declared.threads.Threads.{Threads}
-use Rattle.vector.specs.Meaning.{Row, Lawful, Meaning, unset}
+use Rattle.vector.specs.Meaning.{Row, Lawful}
 use Rattle.vector.specs.Refusals.{first_row, outside, set_up_rows}
 use Rattle.vector.specs.Plain.{Small}
 use Rattle.vector.specs.Calls.{all_zero, begin_refused, step_refused, SetsUp, Begins, Steps, begun, set_up}
 use Rattle.vector.specs.Threads.{idle_threads, task_of, with_row, rows_of}
 use Rattle.vector.proofs.Preparing.{zeros_at, from_outside}
-use Rattle.vector.proofs.Tasks.{same_meaning, set_up_granted, begin_granted, step_granted, all_idle, count, rows_after, begin_same, step_same, none_open, task_set_other, at_tasks, left_some}
+use Rattle.vector.proofs.Tasks.{same_meaning, set_up_granted, begin_granted, step_granted, all_idle, rows_after, begin_same, step_same, none_open, task_set_other, at_tasks, left_some}
 use Rattle.lock_vector.specs.declared.stages.Stage.{Stage}
 use Rattle.lock_vector.specs.Calls.{needed, first_stage, admitted, admit_rows, advance_rows, Prepares, Admits, Advances, moved_row, stored_row, location, location_of}
 use Rattle.lock_vector.specs.Meaning.{values, items, meant, rank, shown, inside, Inside, Lock, free, held, Known, Running, Sound}
@@ -155,15 +155,3 @@ keeps_step T W t (Ok s) T' W' h sound =
     let b = step_granted T.count t (is_some (task_of T.rows t)) _ h.0 in
     let g = granted_step T W t (running T W sound t b.0 b.1) b.0 b.1 (task_of T.rows t) refl b.2 in
     rw (h.1.0, h.1.1, h.1.2) (inr g.runs, (sym (step_refused_same T W sound t) ∙ h.0, (g.moves, refl, g.falls)))
-
--- whatever is not yet set up is sound
-pub fresh : (T : Threads Stage) (W : List ℕ) → T.count ≤ 8 → length T.rows ≡ 8 → (shown T W).meaning ≡ unset → Sound T W
-fresh T W few eight e =
-    let a : T.count ≤ length T.rows = omega arith in
-    let l : length (shown T W).meaning.rows ≡ 0 = ap (λ (m : Meaning). length m.rows) e in
-    inl (record {
-      none = sym (count meant refl T.count T.rows a) ∙ l;
-      bare = ap (λ (m : Meaning). m.capacity) e;
-      ungiven = ap (λ (m : Meaning). m.given) e;
-      eight = eight;
-    })
