@@ -19,6 +19,17 @@ use Rattle.stepping.proofs.Space.{to_come, new_owes, set_up_owes, begin_owes, st
 use Rattle.stepping.proofs.Law.{log_is_true, plainly_ordered, after_run, at_first}
 use Rattle.stepping.proofs.Timely.{ends_in_time}
 
+module _ {C K T : Type 0} where
+  -- a call that records nothing
+  pub kept_log : (b b' : Running C K T) → b'.log ≡ b.log → Logs b [] b'
+  kept_log b b' same =
+      let items = vec_items b.log in
+      let fits : length items ≤ vec_capacity b.log = omega (arith, b.log.ok.0, b.log.ok.1) in
+      record {
+        logged = ap (λ l. vec_items l) same ∙ nothing_more (vec_capacity b.log) items [] refl fits;
+        room = ap (λ l. vec_capacity l) same;
+      }
+
 module _ {C K T : Type 0} (c : Container C) (k : Kind K T) where
   -- Histories, one after the other.
   leads_on : (b u w : Running C K T) (es fs : List (Event T)) → Leads c k b es u → Leads c k u fs w → Leads c k b (es ++ fs) w
@@ -38,15 +49,6 @@ module _ {C K T : Type 0} (c : Container C) (k : Kind K T) where
   goes_on b b' e call = led_on b b' (e ∷ []) (b', call, refl)
 
   -- The log of a history, as far as it has room.
-  pub kept_log : (b b' : Running C K T) → b'.log ≡ b.log → Logs b [] b'
-  kept_log b b' same =
-      let items = vec_items b.log in
-      let fits : length items ≤ vec_capacity b.log = omega (arith, b.log.ok.0, b.log.ok.1) in
-      record {
-        logged = ap (λ l. vec_items l) same ∙ nothing_more (vec_capacity b.log) items [] refl fits;
-        room = ap (λ l. vec_capacity l) same;
-      }
-
   calls_log : (b b' : Running C K T) (e : Event T) → Calls c k b e b' → Logs b (records e) b'
   calls_log b b' (SetUpCall n m r) call = kept_log b b' call.log_same
   calls_log b b' (BeginCall t op r) call = call.logs
