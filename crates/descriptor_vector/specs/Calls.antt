@@ -1,4 +1,4 @@
--- What each call does to the table and to the words of the memory, sound or not: it is refused just as its table of refusals
+-- What each call does to the table and to the words of the memory, whatever these are: it is refused just as its table of refusals
 -- says, and alters nothing then; else here are the table, the answer and every word after it.
 use Rattle.std.specs.Prelude.{◌≡◌, ℕ, suc, ◌+◌, Bool, List, [], ◌∷◌, ◌++◌, length, Some, None, is_some, Result, nat_le}
 use Rattle.refusal.specs.declared.Refusal.{Refusal}

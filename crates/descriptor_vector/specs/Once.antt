@@ -12,7 +12,6 @@ use Rattle.vector.specs.declared.Answer.{Answer}
 use Rattle.vector.specs.declared.Ended.{Ended}
 use Rattle.vector.specs.declared.Stepped.{Stepped}
 use Rattle.vector.specs.Meaning.{Row as Meant, idle as no_operation, waiting, served, Meaning, Shown, Lawful, row_of, is_open}
-use Rattle.vector.specs.Refusals.{Judged}
 use Rattle.vector.specs.Calls.{SetsUp, Begins, Steps, Takes, Ends, Moves, taken, over}
 use Rattle.vector.specs.Threads.{task_of, rows_of}
 use Rattle.descriptor_steps.specs.Shared.{Shared}
@@ -22,7 +21,7 @@ use Rattle.linearization.specs.Meaning.{meant, took_effect, answer_of}
 use Rattle.linearization.proofs.Tests.{no_way}
 use Rattle.linearization.proofs.Threads.{row_meant}
 use Rattle.descriptor_vector.specs.Calls.{Prepares, Admits, Advances}
-use Rattle.descriptor_vector.specs.Sound.{memory_of, shown, Running, Sound}
+use Rattle.descriptor_vector.specs.Sound.{memory_of, shown, Sound}
 use Rattle.descriptor_vector.specs.Keeps.{keeps_set_up, keeps_begin, keeps_step}
 use Rattle.descriptor_vector.specs.Keeps as keeps
 

@@ -11,6 +11,6 @@ pub struct DescriptorVector<M: Memory> {
     pub(crate) table: Table,
     ghost few: { table.threads.count ≤ 8 },
     ghost eight: { length table.threads.rows ≡ 8 },
-    // It holds together.
+    // It holds together, somehow: the invariant names words that were once put, and a fact of a type has to hold in one way only.
     ghost sound: { ∥ Sound table (M.words memory) ∥₁ },
 }

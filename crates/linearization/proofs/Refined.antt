@@ -4,9 +4,10 @@ use Rattle.std.proofs.Common.{◌≡◌, ℕ, ◌-◌, ◌≤◌, true, ◌≢�
 use Rattle.std.proofs.lemmas.List.{length-map, length-set}
 use Rattle.std.proofs.lemmas.Bool.{cases_eq}
 use Rattle.vector.proofs.Rows.{row_set_same, row_set_other}
+use Rattle.vector.proofs.Tasks.{same_meaning}
 use Rattle.vector.specs.Calls.{taken, Moves}
-use Rattle.vector.specs.Meaning.{waiting, served, Meaning, row_of, Row as Meant, idle as no_operation}
-use Rattle.vector.specs.Plain.{answer, after}
+use Rattle.vector.specs.Meaning.{waiting, served, row_of, Row as Meant, idle as no_operation}
+use Rattle.vector.specs.Plain.{answer}
 use Rattle.vector.specs.declared.Op.{Op}
 use Rattle.vector.specs.declared.Op.TheVariants.{Pop}
 use Rattle.vector.specs.Threads.{task_of}
@@ -63,9 +64,6 @@ rows_same : (s s' : Shared) → ((k : ℕ) (o : Op ℕ) → meant_of s' k o ≡ 
 rows_same s s' h None = refl
 rows_same s s' h (Some w) = h w.number w.op
 
-same_parts : (c c' : ℕ) (xs xs' : List ℕ) (rs rs' : List Meant) (g : ℕ) → c ≡ c' → xs ≡ xs' → rs ≡ rs' → ◌≡◌ {A = Meaning} (record { capacity = c; items = xs; rows = rs; given = g }) (record { capacity = c'; items = xs'; rows = rs'; given = g })
-same_parts c c' xs xs' rs rs' g a b d = rw (a, b, d)
-
 module _ {s : Shared} {rows : List Row} {given : ℕ} (i : Invariant s rows given) (t n : ℕ) (op : Op ℕ) (x : Stage) (is_row : task_of rows t ≡ open_at n op x) where
   within : (1 ≤ t) × (t ≤ length rows)
   within = open_thread rows t n op x is_row
@@ -96,7 +94,7 @@ module _ {s : Shared} {rows : List Row} {given : ℕ} (i : Invariant s rows give
 
   moves_by : (r : Res) → Outcome s i.put n op r → Moves (meaning s rows given) t (told n r) (meaning r.sh (set rows (t - 1) (row_after n op r.nx)) given)
   moves_by r (moves {s'} {put'} {x = y} ch sa l) =
-      (meaning s rows given, refl, same_parts s'.cap s.cap (items s') (items s) (map (meant s') (set rows (t - 1) (open_at n op y))) (map (meant s) rows) given ch.follows.caps sa.1 same)
+      (meaning s rows given, refl, same_meaning ch.follows.caps sa.1 same refl)
     where
       same : map (meant s') (set rows (t - 1) (open_at n op y)) ≡ map (meant s) rows
       same = same_rows (map (meant s') (set rows (t - 1) (open_at n op y))) (map (meant s) rows) (many s' (open_at n op y)) (λ v. goes_on s' y v ∙ rows_same s s' sa.0 (task_of rows v) ∙ sym (row_meant s rows v))
@@ -106,7 +104,7 @@ module _ {s : Shared} {rows : List Row} {given : ℕ} (i : Invariant s rows give
       owner q = (
         taken (meaning s rows given) q.0 q.1 c,
         (q.0, q.1, row_meant s rows q.0 ∙ ap (meant s) q.3 ∙ w q.1, refl),
-        same_parts s'.cap s.cap (items s') (after s.cap (items s) q.1) (map (meant s') (set rows (t - 1) (open_at n op y))) (set (map (meant s) rows) (q.0 - 1) (served q.1 c (answer s.cap (items s) q.1))) given ch.follows.caps (sym plain_op.1) same,
+        same_meaning ch.follows.caps (sym plain_op.1) same refl,
       )
         where
           -- the owner's operation is its plan's
@@ -131,7 +129,7 @@ module _ {s : Shared} {rows : List Row} {given : ℕ} (i : Invariant s rows give
   moves_by r (ends {s'} {put'} {a} ch sa m f) = (
     meaning s rows given,
     refl,
-    (op, row_meant s rows t ∙ ap (meant s) is_row ∙ m, same_parts s'.cap s.cap (items s') (items s) (map (meant s') (set rows (t - 1) idle)) (set (map (meant s) rows) (t - 1) no_operation) given ch.follows.caps sa.1 same),
+    (op, row_meant s rows t ∙ ap (meant s) is_row ∙ m, same_meaning ch.follows.caps sa.1 same refl),
   )
     where
       same : map (meant s') (set rows (t - 1) idle) ≡ set (map (meant s) rows) (t - 1) no_operation
@@ -143,7 +141,7 @@ module _ {s : Shared} {rows : List Row} {given : ℕ} (i : Invariant s rows give
   moves_by r (ends_now {s'} {put'} {a} ch k u u' tk) = (
     taken (meaning s rows given) t op n,
     (t, op, row_meant s rows t ∙ ap (meant s) is_row ∙ waits, refl),
-    (op, row_set_same (map (meant s) rows) t mid within.0 high ∙ ap (served op n) tk.0, same_parts s'.cap s.cap (items s') (after s.cap (items s) op) (map (meant s') (set rows (t - 1) idle)) (set (set (map (meant s) rows) (t - 1) mid) (t - 1) no_operation) given ch.follows.caps (sym tk.1) same),
+    (op, row_set_same (map (meant s) rows) t mid within.0 high ∙ ap (served op n) tk.0, same_meaning ch.follows.caps (sym tk.1) same refl),
   )
     where
       waits : meant_of s n op ≡ waiting op n

@@ -1,4 +1,4 @@
--- What each call does to the threads and to the words of the memory, sound or not: it is refused just as its table of
+-- What each call does to the threads and to the words of the memory, whatever these are: it is refused just as its table of
 -- refusals says, and alters nothing then; else here are the threads, the answer and every word after it.
 use Rattle.std.specs.Prelude.{◌≡◌, ℕ, suc, ◌+◌, ◌<◌, ◌≤◌, Bool, cond, not, List, [], ◌∷◌, length, is_some, Some, None, Ok, Err, Option, Result, ◌==◌, nat_le, slice_index, slice_set}
 use Rattle.refusal.specs.declared.Refusal.{Refusal}

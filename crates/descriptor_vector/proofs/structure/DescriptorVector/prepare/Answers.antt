@@ -1,4 +1,4 @@
-use Rattle.std.proofs.Common.{◌≡◌, ℕ, ◌-◌, ◌^◌, ◌≤◌, min, Bool, None, Ok, Result, sym, ◌∙◌, refl, arith}
+use Rattle.std.proofs.Common.{◌≡◌, ℕ, ◌-◌, ◌^◌, min, Bool, None, Ok, Result, sym, ◌∙◌, refl, arith}
 use Rattle.refusal.specs.declared.Refusal.{Refusal}
 use Rattle.vector.specs.Refusals.{first_row, set_up_rows}
 use Rattle.vector.proofs.Tasks.{set_up_granted}
