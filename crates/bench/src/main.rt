@@ -38,7 +38,7 @@ The forms of scripts and listings are described in docs/scripts_and_listings.md,
 faults in docs/refusals.md.
 ";
 
-// The listing has this many bytes at most.
+// The listing has this many bytes at most. Each program makes its own output, since `run_script` takes the caller's.
 const ROOM: usize = 65536;
 
 fn play(rt: &HostRuntime) -> anyhow::Result<()> {

@@ -8,7 +8,7 @@ use anyhow::Context;
 use script_run::run_script;
 use std::io::{Read, Write};
 
-// The listing has this many bytes at most.
+// The listing has this many bytes at most. Each program makes its own output, since `run_script` takes the caller's.
 const ROOM: usize = 65536;
 
 // A number in decimal; no digits are 0.
@@ -25,10 +25,7 @@ fn first_entry(bundle: &[u8]) -> Option<(&[u8], &[u8])>
 {
     let at = bundle.iter().position(|b| *b == b'\n')?;
     let (entry, rest) = bundle[at + 1..].split_at_checked(number(&bundle[..at])?)?;
-    match rest.split_first() {
-        Some((b'\n', others)) => Some((entry, others)),
-        _ => None,
-    }
+    Some((entry, rest.strip_prefix(b"\n")?))
 }
 
 fn show(rt: &HostRuntime, text: &[u8]) -> anyhow::Result<()> {

@@ -43,7 +43,7 @@ fn swap_cell(position: u16, old: Cell, new: Cell) -> Access
     Access::SwapCell { position, old, new }
 }
 
-// H1 fills the cell of a push, if it is still empty by whom the plan says.
+// H1 fills the cell of a push, if it is still empty by whom the plan says. The table is total: with no plan it reads 0s.
 fn fill(plan: Option<Plan>) -> Access
     ensures { result ≡ Access.SwapCell (position plan) (empty (emptied_by plan)) (plain (pushed plan)) }
 {

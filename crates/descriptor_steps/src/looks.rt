@@ -14,6 +14,7 @@ use vector::{Answer, Op};
 pub(crate) fn after_l1(capacity: u16, op: Op<u32>, current: u16) -> Stage
     ensures { (s : Shared) → s.cap ≡ capacity → result ≡ on_L1 s op current }
 {
+    // The word has 0 where there is no current operation.
     if current == 0 {
         chosen(capacity, 0, 0, op)
     } else {

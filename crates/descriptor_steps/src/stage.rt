@@ -16,7 +16,7 @@ pub enum Plan {
     },
 }
 
-// The plan of each number; number 0 has none.
+// The plan of each number, at its place, since any number may have one; number 0 has none.
 #[derive(Clone, Copy)]
 pub struct Plans {
     pub by_number: [Option<Plan>; 401],
@@ -31,7 +31,8 @@ pub enum Then {
 }
 
 // The labels of the step table, each with what the thread remembers. `G5w` is G5 reached from G4, with the word seen there.
-// What several remember is no struct of its own: each names all of it, as its row of the table does.
+// What several remember, as who is helped and where to go then, is no struct of its own: each names all of it, as its row of the table
+// does, so that code and table are read side by side.
 #[derive(Clone, Copy)]
 pub enum Stage {
     L1,
@@ -137,7 +138,7 @@ pub enum Stage {
     },
 }
 
-// A step leads to another stage, or ends the operation, which is no error: as a `Result` it would be no plainer.
+// A step leads to another stage, or ends the operation, which is no error: as a `Result` or a `ControlFlow` it would be no plainer.
 #[derive(Clone, Copy)]
 pub enum Next {
     Goto(Stage),

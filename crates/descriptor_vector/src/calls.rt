@@ -1,5 +1,5 @@
-// The calls of the vector, each with its table as contract; what it means follows from the table, and so that the vector still holds
-// together.
+// The calls of the vector, each with its table as contract; what it means, and that the vector still holds together, follows from the
+// table and from `sound`.
 ghost use Rattle.std.specs.Prelude.{◌≡◌, true};
 ghost use Rattle.descriptor_vector.specs.Calls.{prepared, Prepares, Admits, Advances};
 ghost use Rattle.descriptor_vector.specs.Sound.{shown};

@@ -54,6 +54,7 @@ fn load_current<M: Memory>(memory: &M) -> Result<u16, Refusal>
     memory.load(0).map(|word| (word % 512) as u16)
 }
 
+// These two are no one function over a trait: nothing else would use what a word decodes to.
 fn load_status<M: Memory>(memory: &M, number: u16) -> Result<Status, Refusal>
     ensures { Reads status_of (M.words memory.now) number result }
 {

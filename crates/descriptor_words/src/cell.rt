@@ -21,7 +21,8 @@ pub enum Status {
     Final(u32),
 }
 
-// Named, and not `From`: the clauses `back` say of the two that each undoes the other.
+// Named, and not `From`: the clauses `back` say of the two that each undoes the other. No trait with `Status`: they share the pair's
+// shape, and no form.
 impl Cell {
     // The word of a cell. Two cells in range have the same word only if they are the same.
     pub fn encode(self) -> u64

@@ -12,10 +12,10 @@ use vector::Threads;
 mod container;
 mod plain;
 
-// An operation has one stage, so that there is nothing to say of it.
 #[derive(Drop)]
 pub struct Direct {
     values: ArrayVec<u32, 64>,
+    // An operation has one stage, so that there is nothing to say of it.
     threads: Threads<()>,
     ghost small: { threads.capacity ≤ 64 },
     ghost few: { threads.count ≤ 8 },

@@ -21,6 +21,7 @@ pub trait Kind {
     // What is true of every item there is. An integer of the code is any integer in a law, so that its range stands here.
     ghost proper: { Self.Item → Type 0 };
 
+    // Named, and not `From`: the laws are about this pair, and `i32` is no type of this crate.
     fn to_value(x: Self::Item) -> u32
         ensures value { result ≡ value x }
         ensures proper { proper x };

@@ -8,7 +8,7 @@ use refusal::Refusal;
 use stepping::Record;
 
 // How much of this room a listing leaves, if it fits. Its lines are made here and once more to be written, since a log has
-// more of them than can be kept.
+// more of them than can be kept. No `try_fold`: tried, and what it says of a fold that broke off did not close.
 fn room_left<T: WriteItem>(log: &[Record<T>], room: usize) -> Option<usize>
     ensures { let n = length (listing T.WriteItem.text log.now) in MatchOption result (room < n) (λ left. n + left ≡ room) }
 {
@@ -25,6 +25,7 @@ pub fn list<T: WriteItem>(log: &[Record<T>], output: &mut [u8]) -> Result<usize,
     ensures { Listed (listing T.WriteItem.text log.now) output.old output.new result }
 {
     room_left(log, output.len()).ok_or(Refusal::ListingTooLong)?;
+    // By place, since the place after the last line is the answer.
     let mut at = 0;
     for entry in log {
         let line = line_of_record(entry);

@@ -7,7 +7,7 @@ use crate::texts::{add_field, add_number};
 use arrayvec::ArrayVec;
 use items::Point;
 
-// The text of an item has at most this many bytes.
+// The text of an item has at most this many bytes: room for three numbers of 64 bits and two commas.
 pub const LONGEST_ITEM: usize = 65;
 
 pub trait WriteItem {

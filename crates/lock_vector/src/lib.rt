@@ -19,8 +19,8 @@ mod stages;
 // How many numbers it gives.
 const NUMBERS: u16 = 400;
 
-// Its words are in the memory, all else is in what it keeps of its threads. No one type with the descriptor vector: stages, words and
-// proofs have nothing in common, and what is alike is `Threads`.
+// Its words are in the memory, all else is in what it keeps of its threads. No one type with the descriptor vector: stages, plans and
+// proofs are others, and what is alike is `Threads`.
 #[derive(Drop)]
 pub struct LockVector<M: Memory> {
     memory: M,
@@ -57,7 +57,8 @@ impl<M: Memory> LockVector<M> {
         LockVector { memory, threads }
     }
 
-    // Each call is a method that has its table as contract; what it means, the trait's clause, follows from the table alone.
+    // Each call is a method that has its table as contract; what it means, and that the vector still holds together, follows from the
+    // table and from `sound`.
 
     // Set-up. It finds every word 0, so that the lock is free and the length 0, and alters none.
     fn prepare(&mut self, capacity: usize, threads: usize) -> Result<(), Refusal>

@@ -13,7 +13,8 @@ const LENGTH: usize = 1;
 
 pub const FIRST_CELL: usize = 401;
 
-// The form bits of a plain cell: form 1, above the lowest 50 bits.
+// The form bits of a plain cell: form 1, above the lowest 50 bits. The few words that are like the descriptor vector's are said here
+// again, so that neither vector stands on the other.
 const PLAIN: u64 = 1 << 50;
 
 // How many 32-bit values there are.

@@ -27,17 +27,17 @@ pub fn play_calls(rt: &HostRuntime) -> anyhow::Result<()> {
     println!(rt; "a bench over a vector under a lock, call by call")?;
     let mut bench = Running::<LockVector<FlatMemory>, Numbers>::new(heap, LockVector::new(memory))?;
     show_look(rt, 1, bench.look(1))?;
-    let _ = bench.set_up(2, 2);
+    bench.set_up(2, 2)?;
     show_look(rt, 1, bench.look(1))?;
-    let number = bench.begin(1, Op::Push(17)).unwrap_or(0);
+    let number = bench.begin(1, Op::Push(17))?;
     println!(rt; "  thread 1 begins number {number}")?;
     for _ in 0..4 {
-        let _ = bench.step(1);
+        bench.step(1)?;
     }
     show_look(rt, 1, bench.look(1))?;
-    let _ = bench.step(1);
+    bench.step(1)?;
     show_look(rt, 1, bench.look(1))?;
-    let _ = bench.step(1);
+    bench.step(1)?;
     show_look(rt, 1, bench.look(1))?;
     show_look(rt, 3, bench.look(3))?;
     let closed = bench.close();

@@ -4,7 +4,7 @@ use script_run::run_script;
 use std::alloc::{AllocError, Global};
 use std::io::Write;
 
-// A listing has this many bytes at most.
+// A listing has this many bytes at most. Each program makes its own output, since `run_script` takes the caller's.
 pub const ROOM: usize = 65536;
 
 // The listing of a script, where an output of so many bytes has room for it, or its fault.

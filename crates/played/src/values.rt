@@ -12,7 +12,7 @@ pub fn play_numbers(rt: &HostRuntime) -> anyhow::Result<()> {
     Ok(())
 }
 
-// A point's coordinates, as they are printed.
+// A point's coordinates, as they are printed here. Its text in a listing is `WriteItem`'s, which cannot fail as printing may.
 #[derive(Drop)]
 struct Shown(Point);
 

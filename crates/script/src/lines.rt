@@ -38,7 +38,7 @@ pub struct Line<T> {
 }
 
 impl<'a> Lines<'a> {
-    // The text of the next line that is not skipped.
+    // The text of the next line that is not skipped. No `find`: the lines that are skipped are counted too.
     pub(crate) fn next_text(&mut self) -> Option<Entry<'a>>
         ensures { NextEntry self.old result self.new }
     {

@@ -10,7 +10,8 @@ use refusal::Refusal;
 // A number has one digit at least, and this many at most.
 const MOST_DIGITS: usize = 10;
 
-// No `parse`, which takes a plus in front, and no fold, whose closure does not see the count of digits that bounds the sum.
+// No `parse`, which takes a plus in front, and no fold: its closure does not see the count of digits that bounds the sum, and would test
+// for what cannot come.
 pub(crate) fn number(text: &[u8]) -> Result<usize, Refusal>
     ensures value { result ≡ ok_or (number_of text.now) Refusal.NotOfAForm }
     ensures small { IfOk result (λ n. n < 10 ^ 10) }

@@ -9,7 +9,7 @@ ghost use Rattle.script.specs.Opening.{has_header};
 use crate::fields::split;
 use refusal::Refusal;
 
-// A line's text, and whether a line feed ends it.
+// A line's text, and whether a line feed ends it. No Option: there is a text either way.
 #[derive(Clone, Copy)]
 pub(crate) struct Row<'a> {
     pub(crate) text: &'a [u8],

@@ -85,8 +85,8 @@ fn with_kind<K: Kind<Item = T>, T: ReadItem + WriteItem + Copy>(
     }
 }
 
-// Plays a script: its listing is written to the output, and its length answered; or the first fault is answered, and nothing
-// written. Only memory for the bench can lack.
+// Plays a script: its listing is written to the output, which is the caller's, and its length answered; or the first fault is
+// answered, and nothing written. Only memory for the bench can lack.
 pub fn run_script(
     heap: Global,
     bytes: &[u8],

@@ -1,4 +1,5 @@
-// Items for values and values for items, in operations and answers.
+// Items for values and values for items, in operations and answers. Case by case: a `map` with a closure would have to be proved of
+// every closure, for two uses.
 ghost use Rattle.std.specs.Prelude.{◌≡◌};
 ghost use Rattle.stepping.specs.Bench.{typed};
 ghost use Rattle.vector.specs.Plain.{map_op, map_answer};

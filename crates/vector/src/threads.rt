@@ -14,8 +14,8 @@ pub struct Task<S> {
     pub stage: S,
 }
 
-// Before set-up the capacity is 0 and there are no threads. The struct is plain, an array with a count beside it and no ArrayVec,
-// so that a definition can say what it is after a call.
+// Before set-up the capacity is 0, which every table reads so, and there are no threads. The struct is plain, an array with a count
+// beside it, no ArrayVec and no ghost field, so that a definition can say what it is after a call.
 #[derive(Drop)]
 pub struct Threads<S> {
     pub capacity: u16,
@@ -39,7 +39,8 @@ impl<S: Copy> Threads<S> {
         }
     }
 
-    // A set-up over a memory of so many words, of which so many are needed, and all of which are 0 or not.
+    // A set-up over a memory of so many words, of which so many are needed, and all of which are 0 or not. By numbers, since a container
+    // may have no memory.
     pub fn set_up(
         &mut self,
         capacity: usize,
@@ -81,7 +82,8 @@ impl<S: Copy> Threads<S> {
         Ok(self.given + 1)
     }
 
-    // A thread begins a task, whose number is the last one given then.
+    // A thread begins a task, whose number is the last one given then. No one call with `grant`: the first stage is found between them,
+    // of an operation that is granted.
     pub fn begin(&mut self, thread: usize, task: Task<S>)
         ensures { self.new ≡ begun_by self.old thread task }
     {
@@ -99,7 +101,8 @@ impl<S: Copy> Threads<S> {
         row.ok_or(Refusal::NothingOpen)
     }
 
-    // What a thread has open is another task then, or none.
+    // What a thread has open is another task then, or none. Nothing hangs on who is no thread: 0 counts as 1 here, and beyond the eighth
+    // nothing is settled; no call that is granted names them.
     pub fn settle(&mut self, thread: usize, row: Option<Task<S>>)
         ensures { self.new ≡ with_row self.old thread row }
     {
