@@ -15,7 +15,7 @@ use Rattle.vector.specs.Threads.{idle_threads, task_of, rows_of}
 use Rattle.vector.specs.Refusals.{first_row, outside, set_up_rows}
 use Rattle.vector.specs.Calls.{all_zero, begin_refused, step_refused, SetsUp, Begins, Steps, Moves, begun, set_up}
 use Rattle.vector.proofs.Rows.{passes}
-use Rattle.vector.proofs.Tasks.{same_task, count, opens}
+use Rattle.vector.proofs.Tasks.{same_task, count, opens, none_open}
 use Rattle.descriptor_words.specs.Words.{numbered}
 use Rattle.descriptor_words.specs.Accesses.{words_after}
 use Rattle.descriptor_vector.specs.declared.table.Table.{Table}
@@ -31,7 +31,6 @@ use Rattle.descriptor_vector.specs.Calls.{needed, prepared, admitted, admit_rows
 use Rattle.descriptor_vector.specs.View.{StageFits, NextFits, OpFits, RowFits}
 use Rattle.descriptor_vector.specs.Sound.{memory_of, shown, Running, Sound}
 use Rattle.linearization.proofs.Tests.{no_way, none_there}
-use Rattle.linearization.proofs.Begun.{all_idle}
 use Rattle.linearization.proofs.Linear.{starts, begins_so, steps_so, ends_in_time}
 use Rattle.vector.proofs.Preparing.{zeros_at, from_outside}
 use Rattle.descriptor_vector.specs.Fresh.{fresh_view, fresh_coded}
@@ -62,7 +61,7 @@ granted_set_up T W k n e =
     let rows : rows_of (idle_threads k n) ≡ replicate n idle = take-replicate n 8 idle (from_outside 1 8 n p3.0).1 in (
       record {
         coded = fresh_coded W k zeros some_cell (ltb-false (length W) (needed k) p4.0);
-        in_range = λ t. rw rows (subst (RowFits k) (sym (all_idle n t)) tt);
+        in_range = λ t. rw rows (subst (RowFits k) (sym (none_open n t)) tt);
         numbers = omega arith;
         invariant = subst (λ (s : Shared). Invariant s (rows_of (idle_threads k n)) 0) (sym same) (subst (λ (r : List Row). Invariant (fresh k) r 0) (sym rows) (starts k n).0);
       },

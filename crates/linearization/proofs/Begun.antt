@@ -1,5 +1,5 @@
 -- The invariant holds of a fresh memory with idle threads, and is kept where an idle thread begins an operation.
-use Rattle.std.proofs.Common.{◌≡◌, ℕ, zero, suc, ◌-◌, ◌≤◌, true, List, length, set, replicate, sym, refl, ap, ◌∙◌, inl, inr, arith, Some, None}
+use Rattle.std.proofs.Common.{◌≡◌, ℕ, suc, ◌-◌, ◌≤◌, true, List, length, set, replicate, sym, refl, ap, ◌∙◌, inl, inr, arith, Some, None}
 use Rattle.std.proofs.lemmas.Bool.{ltb-true}
 use Rattle.vector.specs.Plain.{index_fits}
 use Rattle.vector.specs.declared.Op.{Op}
@@ -11,6 +11,7 @@ use Rattle.descriptor_steps.specs.Machine.{first}
 use Rattle.descriptor_steps.specs.Shared.{Shared, fresh}
 use Rattle.linearization.specs.Names.{Stage, Row, idle, open_at}
 use Rattle.linearization.proofs.Tests.{no_way}
+use Rattle.vector.proofs.Tasks.{none_open}
 use Rattle.linearization.proofs.Threads.{number_in, at_row}
 
 pub fresh_facts : (c : ℕ) → Facts (fresh c) (λ _ _. unput)
@@ -37,19 +38,13 @@ fresh_facts c =
       plan_within = λ k h. no_way (sym h);
     }
 
-pub all_idle : (n t : ℕ) → task_of (replicate n idle) t ≡ idle
-all_idle n zero = refl
-all_idle zero (suc t) = refl
-all_idle (suc n) (suc zero) = refl
-all_idle (suc n) (suc (suc t)) = all_idle n (suc t)
-
 pub fresh_invariant : (c n : ℕ) → Invariant (fresh c) (replicate n idle) 0
 fresh_invariant c n =
     record {
       put = λ _ _. unput;
       facts = fresh_facts c;
-      each_row = λ t. let z = all_idle n t in rw z tt;
-      apart = λ t u k op op' x x' h h'. let z = all_idle n t in no_way (cc);
+      each_row = λ t. let z : task_of (replicate n idle) t ≡ idle = none_open n t in rw z tt;
+      apart = λ t u k op op' x x' h h'. let z : task_of (replicate n idle) t ≡ idle = none_open n t in no_way (cc);
       owned = λ k h f. no_way (sym h);
       plan_later = λ k l. refl;
       put_later = λ d j l. refl;
