@@ -11,20 +11,28 @@ use std::io::{Read, Write};
 // The listing has this many bytes at most. Each program makes its own output, since `run_script` takes the caller's.
 const ROOM: usize = 65536;
 
-// A number in decimal; no digits are 0.
-fn number(digits: &[u8]) -> Option<usize> {
-    digits.iter().try_fold(0usize, |number, digit| {
-        let digit = char::from(*digit).to_digit(10)?;
-        number.checked_mul(10)?.checked_add(digit as usize)
-    })
+// The length of the first entry of a bundle, in decimal (no digits are 0), and what follows its line feed. In one pass, which ends at the
+// first byte that is no digit, or where the length grows too large: what follows may be long.
+fn length_line(bundle: &[u8]) -> Option<(usize, &[u8])>
+    ensures { IfSome result (λ p. length p.1.now < length bundle.now) }
+{
+    let mut length = 0usize;
+    for (i, b) in bundle.iter().enumerate() {
+        if *b == b'\n' {
+            return Some((length, &bundle[i + 1..]));
+        }
+        let digit = char::from(*b).to_digit(10)?;
+        length = length.checked_mul(10)?.checked_add(digit as usize)?;
+    }
+    None
 }
 
 // The first entry of a bundle and what follows it.
 fn first_entry(bundle: &[u8]) -> Option<(&[u8], &[u8])>
     ensures { IfSome result (λ p. length p.1.now < length bundle.now) }
 {
-    let at = bundle.iter().position(|b| *b == b'\n')?;
-    let (entry, rest) = bundle[at + 1..].split_at_checked(number(&bundle[..at])?)?;
+    let (length, rest) = length_line(bundle)?;
+    let (entry, rest) = rest.split_at_checked(length)?;
     Some((entry, rest.strip_prefix(b"\n")?))
 }
 

@@ -1,1 +1,4 @@
+pub mod Putting
+pub mod Lengths
 pub mod Joining
+pub mod Casts

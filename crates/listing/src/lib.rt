@@ -1,6 +1,7 @@
 // A log as a listing: a line for each record, into an output of limited length.
 #![tactic(auto)]
 
+mod decimals;
 mod logs;
 mod records;
 mod texts;

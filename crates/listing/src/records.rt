@@ -1,72 +1,110 @@
-// The line of a record.
-ghost use Rattle.std.specs.Prelude.{◌≡◌};
-ghost use Rattle.listing.specs.Listings.{op_text, answer_text, line_of};
+// The line of a record: how long it is, and the writing of it.
+ghost use Rattle.std.specs.Prelude.{◌≡◌, ◌≤◌, length};
+ghost use Rattle.listing.specs.Listings.{op_text, answer_text, record_text, line_of};
+ghost use Rattle.listing.specs.Puts.{Puts, Room};
 
-use crate::texts::{add, add_field, add_number};
-use crate::write_item::{LONGEST_ITEM, WriteItem};
-use arrayvec::ArrayVec;
+use crate::decimals::{number_len, put_field, put_number, put_text};
+use crate::write_item::WriteItem;
 use stepping::Record;
 use vector::{Answer, Op};
 
-// The longest operation or answer is a write, and the longest line begins one.
-const LONGEST_PART: usize = 2 + 20 + 1 + LONGEST_ITEM;
-
-const LONGEST_LINE: usize = 6 + 10 + 1 + 20 + 1 + LONGEST_PART + 1;
-
-fn text_of_op<T: WriteItem>(op: &Op<T>) -> ArrayVec<u8, LONGEST_PART>
-    ensures { result.items ≡ op_text T.WriteItem.text op.now }
+fn op_len<T: WriteItem>(op: &Op<T>) -> usize
+    ensures value { result ≡ length (op_text T.WriteItem.text op.now) }
+    ensures small { result ≤ 90 }
 {
-    let mut text = ArrayVec::new();
+    match op {
+        Op::Push(item) => 2 + item.text_len(),
+        Op::Pop | Op::Size => 1,
+        Op::Read(index) => 2 + number_len(*index as u64),
+        Op::Write(index, item) => 3 + number_len(*index as u64) + item.text_len(),
+    }
+}
+
+fn put_op<T: WriteItem>(op: &Op<T>, output: &mut [u8], at: usize) -> usize
+    requires { Room (op_text T.WriteItem.text op.now) at output.old }
+    ensures { Puts (op_text T.WriteItem.text op.now) at output.old output.new result }
+{
     match op {
         Op::Push(item) => {
-            add(&mut text, b"+ ");
-            add(&mut text, &item.text());
+            let at = put_text(b"+ ", output, at);
+            item.write(output, at)
         }
-        Op::Pop => add(&mut text, b"-"),
-        Op::Read(index) => add_field(&mut text, b"r ", *index),
+        Op::Pop => put_text(b"-", output, at),
+        Op::Read(index) => put_field(b"r ", *index as u64, output, at),
         Op::Write(index, item) => {
-            add_field(&mut text, b"w ", *index);
-            add(&mut text, b" ");
-            add(&mut text, &item.text());
+            let at = put_field(b"w ", *index as u64, output, at);
+            let at = put_text(b" ", output, at);
+            item.write(output, at)
         }
-        Op::Size => add(&mut text, b"s"),
+        Op::Size => put_text(b"s", output, at),
     }
-    text
 }
 
-fn text_of_answer<T: WriteItem>(answer: &Answer<T>) -> ArrayVec<u8, LONGEST_PART>
-    ensures { result.items ≡ answer_text T.WriteItem.text answer.now }
+fn answer_len<T: WriteItem>(answer: &Answer<T>) -> usize
+    ensures value { result ≡ length (answer_text T.WriteItem.text answer.now) }
+    ensures small { result ≤ 90 }
 {
-    let mut text = ArrayVec::new();
     match answer {
-        Answer::Position(count) | Answer::Length(count) => add_number(&mut text, *count),
-        Answer::Value(item) => add(&mut text, &item.text()),
-        Answer::Full => add(&mut text, b"full"),
-        Answer::Empty => add(&mut text, b"empty"),
-        Answer::Out => add(&mut text, b"out"),
-        Answer::Done => add(&mut text, b"done"),
+        Answer::Position(count) | Answer::Length(count) => number_len(*count as u64),
+        Answer::Value(item) => item.text_len(),
+        Answer::Full | Answer::Done => 4,
+        Answer::Empty => 5,
+        Answer::Out => 3,
     }
-    text
 }
 
-pub(crate) fn line_of_record<T: WriteItem>(entry: &Record<T>) -> ArrayVec<u8, LONGEST_LINE>
-    ensures { result.items ≡ line_of T.WriteItem.text entry.now }
+fn put_answer<T: WriteItem>(answer: &Answer<T>, output: &mut [u8], at: usize) -> usize
+    requires { Room (answer_text T.WriteItem.text answer.now) at output.old }
+    ensures { Puts (answer_text T.WriteItem.text answer.now) at output.old output.new result }
 {
-    let mut line = ArrayVec::new();
+    match answer {
+        Answer::Position(place) => put_number(*place as u64, output, at),
+        Answer::Value(item) => item.write(output, at),
+        Answer::Full => put_text(b"full", output, at),
+        Answer::Empty => put_text(b"empty", output, at),
+        Answer::Out => put_text(b"out", output, at),
+        Answer::Done => put_text(b"done", output, at),
+        Answer::Length(count) => put_number(*count as u64, output, at),
+    }
+}
+
+pub(crate) fn line_len<T: WriteItem>(entry: &Record<T>) -> usize
+    ensures { result ≡ length (line_of T.WriteItem.text entry.now) }
+{
+    match entry {
+        Record::Begin(number, thread, op) => 9
+            + number_len(*number as u64)
+            + number_len(*thread as u64)
+            + op_len(op),
+        Record::Effect(number) => 8 + number_len(*number as u64),
+        Record::End(number, answer) => 6 + number_len(*number as u64) + answer_len(answer),
+    }
+}
+
+fn put_record<T: WriteItem>(entry: &Record<T>, output: &mut [u8], at: usize) -> usize
+    requires { Room (record_text T.WriteItem.text entry.now) at output.old }
+    ensures { Puts (record_text T.WriteItem.text entry.now) at output.old output.new result }
+{
     match entry {
         Record::Begin(number, thread, op) => {
-            add_field(&mut line, b"begin ", *number);
-            add_field(&mut line, b" ", *thread);
-            add(&mut line, b" ");
-            add(&mut line, &text_of_op(op));
+            let at = put_field(b"begin ", *number as u64, output, at);
+            let at = put_field(b" ", *thread as u64, output, at);
+            let at = put_text(b" ", output, at);
+            put_op(op, output, at)
         }
-        Record::Effect(number) => add_field(&mut line, b"effect ", *number),
+        Record::Effect(number) => put_field(b"effect ", *number as u64, output, at),
         Record::End(number, answer) => {
-            add_field(&mut line, b"end ", *number);
-            add(&mut line, b" ");
-            add(&mut line, &text_of_answer(answer));
+            let at = put_field(b"end ", *number as u64, output, at);
+            let at = put_text(b" ", output, at);
+            put_answer(answer, output, at)
         }
     }
-    add(&mut line, b"\n");
-    line
+}
+
+pub(crate) fn put_line<T: WriteItem>(entry: &Record<T>, output: &mut [u8], at: usize) -> usize
+    requires { Room (line_of T.WriteItem.text entry.now) at output.old }
+    ensures { Puts (line_of T.WriteItem.text entry.now) at output.old output.new result }
+{
+    let end = put_record(entry, output, at);
+    put_text(b"\n", output, end)
 }

@@ -1,5 +1,6 @@
 // The faults that a script can have, and scripts next to them that have none.
 use crate::scripts::{ROOM, listing_of};
+use std::fmt;
 
 const CASES: [(&str, &str); 24] = [
     ("no header line", "# nothing\n\n"),
@@ -28,9 +29,28 @@ const CASES: [(&str, &str); 24] = [
     ("the call's fault before the form's", "dfn 2 2\n1 . 1\nx\n"),
 ];
 
+// What is played. No text made for it: that could lack memory.
+#[derive(Drop)]
+enum Title {
+    Case(&'static str),
+    Long(usize),
+    Room(usize),
+}
+
+impl fmt::Display for Title {
+    fn fmt<W: fmt::Write>(&self, f: &mut fmt::Formatter<W>) -> fmt::Result {
+        match self {
+            Title::Case(text) => write!(f, "{text}"),
+            Title::Long(count) => write!(f, "a script of {count} bytes"),
+            Title::Room(room) => write!(f, "15 bytes for an output of {room}"),
+        }
+    }
+}
+
 // What comes of a script whose output has so many bytes.
-fn show_fate(rt: &HostRuntime, title: &str, script: &[u8], room: usize) -> anyhow::Result<()> {
-    match listing_of(rt.alloc(), script, room)? {
+fn show_fate(rt: &HostRuntime, title: Title, script: &[u8], room: usize) -> anyhow::Result<()> {
+    let heap = rt.alloc();
+    match listing_of(heap, script, Vec::from_elem(heap, 0u8, room)?)? {
         Ok(listing) => println!(rt; "  {title}: {} bytes listed", listing.len())?,
         Err(fault) => println!(rt; "  {title}: {fault}")?,
     }
@@ -39,23 +59,21 @@ fn show_fate(rt: &HostRuntime, title: &str, script: &[u8], room: usize) -> anyho
 
 // A script of a header and empty lines, of so many bytes.
 fn show_long(rt: &HostRuntime, count: usize) -> anyhow::Result<()> {
-    let heap = rt.alloc();
-    let mut script = Vec::from_slice(heap, b"dfn 2 2\n")?;
+    let mut script = Vec::with_capacity(rt.alloc(), count)?;
+    script.extend_from_slice(b"dfn 2 2\n")?;
     script.resize(count, b'\n')?;
-    let title = format!(in heap; "a script of {count} bytes")?;
-    show_fate(rt, title.as_str(), script.as_slice(), ROOM)
+    show_fate(rt, Title::Long(count), script.as_slice(), ROOM)
 }
 
 // The listing of one push is 15 bytes.
 fn show_room(rt: &HostRuntime, room: usize) -> anyhow::Result<()> {
-    let title = format!(in rt.alloc(); "15 bytes for an output of {room}")?;
-    show_fate(rt, title.as_str(), b"dfn 2 2\n1 + 17\n", room)
+    show_fate(rt, Title::Room(room), b"dfn 2 2\n1 + 17\n", room)
 }
 
 pub fn play_faults(rt: &HostRuntime) -> anyhow::Result<()> {
     println!(rt; "faults")?;
     for (title, script) in CASES {
-        show_fate(rt, title, script.as_bytes(), ROOM)?;
+        show_fate(rt, Title::Case(title), script.as_bytes(), ROOM)?;
     }
     show_long(rt, 16384)?;
     show_long(rt, 16385)?;

@@ -7,13 +7,13 @@ use std::io::Write;
 // A listing has this many bytes at most. Each program makes its own output, since `run_script` takes the caller's.
 pub const ROOM: usize = 65536;
 
-// The listing of a script, where an output of so many bytes has room for it, or its fault.
+// The listing of a script, where the output has room for it, or its fault. The output is had before, so that each caller decides what
+// it prints where memory lacks.
 pub fn listing_of(
     heap: Global,
     script: &[u8],
-    room: usize,
+    mut output: Vec<u8>,
 ) -> Result<Result<Vec<u8>, Fault>, AllocError> {
-    let mut output = Vec::from_elem(heap, 0u8, room)?;
     let played = run_script(heap, script, output.as_mut_slice())?;
     Ok(played.map(|length| {
         output.truncate(length);
@@ -22,8 +22,10 @@ pub fn listing_of(
 }
 
 fn show_script(rt: &HostRuntime, title: &str, script: &str) -> anyhow::Result<()> {
+    let heap = rt.alloc();
+    let output = Vec::from_elem(heap, 0u8, ROOM)?;
     println!(rt; "{title}")?;
-    match listing_of(rt.alloc(), script.as_bytes(), ROOM)? {
+    match listing_of(heap, script.as_bytes(), output)? {
         Ok(listing) => rt.stdout().write_all(listing.as_slice())?,
         Err(fault) => println!(rt; "{fault}")?,
     }

@@ -1,9 +1,7 @@
-use Rattle.std.proofs.Common.{◌≡◌, ◌++◌, length, take, drop}
+use Rattle.std.proofs.Common.{take}
 use Rattle.listing.specs.Listings.{listing}
+use Rattle.listing.specs.Puts.{Puts}
 use Rattle.listing.proofs.logs.list.Given as goal
 
 abbrev pub invariant-loop-entry : goal.invariant-loop-entry
-invariant-loop-entry g l = record {
-  written : l.output ≡ listing g.T.WriteItem.text (take l.entry-index l.log) ++ drop l.at l.initial.output;
-  place : l.at ≡ length (listing g.T.WriteItem.text (take l.entry-index l.log));
-}
+invariant-loop-entry g l = Puts (listing g.T.WriteItem.text (take l.entry-index l.log)) 0 l.initial.output l.output l.at
