@@ -79,8 +79,11 @@ module _ (bs : List Bucket) (sized : sizes bs ≡ six) where
         let low : 2 ^ 6 ≤ 2 ^ b = pow_mono h in
         omega (arith, low, all)
 
+    pub in_six : at < 504 → b < 6
+    in_six h = lt_of_not-le (λ (m : 6 ≤ b). omega (arith, beyond m, all))
+
     module _ (d : Bucket) (h : b < 6) where
-      size_there : (get_or bs b d).size ≡ size_of b
+      pub size_there : (get_or bs b d).size ≡ size_of b
       size_there = grind (arith, common_steps, long, six_starts b h)
 
       get_there : get_or (joined bs) at 0 ≡ get_or (shown (get_or bs b d)) off 0
@@ -109,5 +112,5 @@ shut_there (d ∷ bs) sized at below e =
     let row = d ∷ bs in
     let b : ℕ = bucket_of at in
     let p = placed at (omega (arith, all row sized)) in
-    let six_th : b < 6 = lt_of_not-le (λ (m : 6 ≤ b). omega (arith, beyond row sized at b _ p m)) in
+    let six_th : b < 6 = in_six row sized at b _ p (omega (arith, all row sized)) in
     grind (arith, common_steps, get_there row sized at b _ p d six_th, shut_shows (get_or row b d), flag_at row b d, long row sized)

@@ -9,6 +9,9 @@ use crate::{Memory, Swapped};
 use refusal::Refusal;
 use std::alloc::{AllocError, Global};
 
+// The sum of the sizes, written out: it is asked for in every load and swap.
+const LEN: usize = 504;
+
 const SIZES: [usize; 6] = [8, 16, 32, 64, 128, 256];
 
 // The buckets are in a Vec, since a proof knows no element of an array after a get_mut of it.
@@ -49,21 +52,25 @@ impl Memory for BucketedMemory {
     ghost words = { bucketed_words };
 
     fn len(&self) -> usize {
-        SIZES.into_iter().sum()
+        LEN
     }
 
     fn load(&self, at: usize) -> Result<u64, Refusal> {
+        if at >= LEN {
+            return Err(Refusal::NoSuchLocation);
+        }
         let (bucket, offset) = place(at);
-        let bucket = self.buckets.get(bucket).ok_or(Refusal::NoSuchLocation)?;
-        Ok(bucket.load(offset))
+        Ok(self.buckets[bucket].load(offset))
     }
 
     fn swap(&mut self, at: usize, old: u64, new: u64) -> Result<Swapped, Refusal>
         ensures swaps { Swaps (bucketed_words self.old) at old new result (bucketed_words self.new) }
         ensures opens { Opens (open_flags self.old) at result (open_flags self.new) }
     {
+        if at >= LEN {
+            return Err(Refusal::NoSuchLocation);
+        }
         let (bucket, offset) = place(at);
-        let bucket = self.buckets.get_mut(bucket).ok_or(Refusal::NoSuchLocation)?;
-        Ok(bucket.swap(offset, old, new))
+        Ok(self.buckets[bucket].swap(offset, old, new))
     }
 }
