@@ -2,7 +2,8 @@
 // An entry of a bundle is its length in decimal, a line feed, that many bytes, and a line feed.
 #![tactic(auto)]
 
-ghost use Rattle.std.specs.Prelude.{◌<◌, length, IfSome};
+ghost use Rattle.std.specs.Prelude.{◌≡◌, ◌<◌, ◌∷◌, ◌++◌, length, Some, IfSome};
+ghost use Rattle.script.specs.Fields.{after};
 
 use anyhow::Context;
 use script_run::run_script;
@@ -14,7 +15,8 @@ const ROOM: usize = 65536;
 // The length of the first entry of a bundle, in decimal (no digits are 0), and what follows its line feed. In one pass, which ends at the
 // first byte that is no digit, or where the length grows too large: what follows may be long.
 fn length_line(bundle: &[u8]) -> Option<(usize, &[u8])>
-    ensures { IfSome result (λ p. length p.1.now < length bundle.now) }
+    ensures rest { IfSome result (λ p. after 10 bundle.now ≡ Some p.1.now) }
+    ensures shorter { IfSome result (λ p. length p.1.now < length bundle.now) }
 {
     let mut length = 0usize;
     for (i, b) in bundle.iter().enumerate() {
@@ -29,7 +31,8 @@ fn length_line(bundle: &[u8]) -> Option<(usize, &[u8])>
 
 // The first entry of a bundle and what follows it.
 fn first_entry(bundle: &[u8]) -> Option<(&[u8], &[u8])>
-    ensures { IfSome result (λ p. length p.1.now < length bundle.now) }
+    ensures parts { IfSome result (λ p. after 10 bundle.now ≡ Some (p.0.now ++ (10 ∷ p.1.now))) }
+    ensures shorter { IfSome result (λ p. length p.1.now < length bundle.now) }
 {
     let (length, rest) = length_line(bundle)?;
     let (entry, rest) = rest.split_at_checked(length)?;
